@@ -1,0 +1,39 @@
+-- Bases: the minimal elements of a set, as a list.
+use Rattle.std.proofs.Common.{IsTrue, ◌≡◌, subst, Bool, List}
+use Rattle.order_core.specs.Order.{IsOrder, are_incomparable}
+use Rattle.order_core.specs.Members.{IsMember}
+use Rattle.order_core.specs.Incomparable.{one_of}
+
+-- x is at most an element that the list has below y
+abbrev pub Below : {A : Type 0} → (A → A → Bool) → List A → A → Type 0
+Below {A = A} leq xs y = (x : A) × IsMember x xs × IsTrue (leq x y)
+
+-- Incomparable elements of the set, one of them below each element.
+pub record IsBasis {A : Type 0} (leq : A → A → Bool) (U : A → Type 0) (xs : List A) : Type 0 where
+  pub elements : (x : A) → IsMember x xs → U x
+  pub incomparable : IsTrue (are_incomparable leq xs)
+  pub complete : (y : A) → U y → Below leq xs y
+
+-- An element of the set with no other one below it.
+pub record IsMinimal {A : Type 0} (leq : A → A → Bool) (U : A → Type 0) (x : A) : Type 0 where
+  pub element : U x
+  pub least : (y : A) → U y → IsTrue (leq y x) → y ≡ x
+
+module _ {A : Type 0} (is_value : A → Bool) (leq : A → A → Bool) (laws : IsOrder is_value leq) where
+  -- The members of a basis are the minimal elements.
+  module _ (U : A → Type 0) (xs : List A) (values : (x : A) → U x → IsTrue (is_value x)) (basis : IsBasis leq U xs) where
+    pub minimal_member : (x : A) → IsMember x xs → IsMinimal leq U x
+    minimal_member x m = record { element = basis.elements x m; least = least }
+      where
+        least : (y : A) → U y → IsTrue (leq y x) → y ≡ x
+        least y u l =
+            let b = basis.complete y u in
+            let at : IsTrue (leq b.0 x) = laws.transitive b.0 y x (values b.0 (basis.elements b.0 b.1)) (values y u) (values x (basis.elements x m)) b.2 l in
+            let same : b.0 ≡ x = one_of leq xs b.0 x basis.incomparable b.1 m at in
+            let back : IsTrue (leq x y) = subst (λ (z : A). IsTrue (leq z y)) same b.2 in
+            laws.antisymmetric y x (values y u) (values x (basis.elements x m)) l back
+
+    pub member_of_minimal : (x : A) → IsMinimal leq U x → IsMember x xs
+    member_of_minimal x h =
+        let b = basis.complete x h.element in
+        subst (λ (z : A). IsMember z xs) (h.least b.0 (basis.elements b.0 b.1) b.2) b.1

@@ -1,0 +1,4 @@
+pub mod Incomparable
+pub mod Members
+pub mod Num
+pub mod Order

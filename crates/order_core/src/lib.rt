@@ -1,0 +1,12 @@
+//! Lists, texts, numbers, and orders on values.
+#![tactic(auto)]
+
+mod list;
+mod num;
+mod order;
+mod text;
+
+pub use list::List;
+pub use num::{MAX_COUNT, Num, NumOrder};
+pub use order::{NoMemory, Order};
+pub use text::Text;
