@@ -2,6 +2,7 @@
 use Rattle.std.proofs.Common.{IsTrue, ◌≡◌, subst, Bool, List}
 use Rattle.order_core.specs.Order.{IsOrder, are_incomparable}
 use Rattle.order_core.specs.Members.{IsMember}
+use Rattle.order_core.specs.Minimal.{IsMinimal}
 use Rattle.order_core.specs.Incomparable.{one_of}
 
 -- x is at most an element that the list has below y
@@ -13,11 +14,6 @@ pub record IsBasis {A : Type 0} (leq : A → A → Bool) (U : A → Type 0) (xs 
   pub elements : (x : A) → IsMember x xs → U x
   pub incomparable : IsTrue (are_incomparable leq xs)
   pub complete : (y : A) → U y → Below leq xs y
-
--- An element of the set with no other one below it.
-pub record IsMinimal {A : Type 0} (leq : A → A → Bool) (U : A → Type 0) (x : A) : Type 0 where
-  pub element : U x
-  pub least : (y : A) → U y → IsTrue (leq y x) → y ≡ x
 
 module _ {A : Type 0} (is_value : A → Bool) (leq : A → A → Bool) (laws : IsOrder is_value leq) where
   -- The members of a basis are the minimal elements.

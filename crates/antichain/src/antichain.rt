@@ -1,8 +1,9 @@
 ghost use Rattle.std.specs.Prelude.{◌≡◌, [], IsTrue, ◌↔◌, not, IfOk, IfErr, OnErr};
 ghost use Rattle.std.specs.List.{list_any, list_all};
 ghost use Rattle.order_core.specs.Members.{IsMember};
+ghost use Rattle.order_core.specs.Minimal.{IsMinimal};
 ghost use Rattle.order_core.specs.Order.{are_incomparable};
-ghost use Rattle.antichain.specs.Basis.{IsBasis, IsMinimal};
+ghost use Rattle.antichain.specs.Basis.{IsBasis};
 ghost use Rattle.antichain.specs.Minima.{inserted, minima};
 
 use crate::scan::{remove_above, some_below};

@@ -1,6 +1,6 @@
 -- The members of a list, and tests of all or some of them.
-use Rattle.std.proofs.Common.{◌≡◌, ◌∙◌, refl, sym, ap, Bool, true, false, ◌&&◌, ◌||◌, not, IsTrue, List, [], ◌∷◌, ◌++◌, cond, filter, ◌⊎◌, inl, inr}
-use Rattle.std.specs.List.{list_all, list_any}
+use Rattle.std.proofs.Common.{◌≡◌, ◌∙◌, refl, sym, ap, Bool, true, false, ◌&&◌, ◌||◌, not, IsTrue, List, [], ◌∷◌, ◌++◌, cond, filter, map, ◌⊎◌, inl, inr}
+use Rattle.std.specs.List.{list_all, list_any, flat_map}
 
 -- x is an item of the list
 abbrev pub IsMember : {A : Type 0} → A → List A → Type 0
@@ -124,3 +124,26 @@ empty_of_none (x ∷ xs) h = absurd (h x (inl refl))
 pub append_nil : {A : Type 0} (xs : List A) → xs ++ [] ≡ xs
 append_nil [] = refl
 append_nil (x ∷ xs) = ap (λ ys. x ∷ ys) (append_nil xs)
+
+pub mem-map : {A B : Type 0} (f : A → B) (xs : List A) (w : B) → IsMember w (map f xs) → (x : A) × IsMember x xs × (w ≡ f x)
+mem-map f [] w m = absurd m
+mem-map f (x ∷ xs) w (inl e) = (x, inl refl, e)
+mem-map f (x ∷ xs) w (inr m) = let r = mem-map f xs w m in (r.0, inr r.1, r.2)
+
+pub map-mem : {A B : Type 0} (f : A → B) (xs : List A) (x : A) → IsMember x xs → IsMember (f x) (map f xs)
+map-mem f [] x m = absurd m
+map-mem f (y ∷ ys) x (inl e) = inl (ap f e)
+map-mem f (y ∷ ys) x (inr m) = inr (map-mem f ys x m)
+
+pub mem-flat_map : {A B : Type 0} (f : A → List B) (xs : List A) (w : B) → IsMember w (flat_map f xs) → (x : A) × IsMember x xs × IsMember w (f x)
+mem-flat_map f [] w m = absurd m
+mem-flat_map {A = A} f (x ∷ xs) w m = go (mem-flat_map f xs w) (mem-split (f x) (flat_map f xs) w m)
+  where
+    go : (IsMember w (flat_map f xs) → (y : A) × IsMember y xs × IsMember w (f y)) → IsMember w (f x) ⊎ IsMember w (flat_map f xs) → (y : A) × IsMember y (x ∷ xs) × IsMember w (f y)
+    go ih (inl l) = (x, inl refl, l)
+    go ih (inr r) = let s = ih r in (s.0, inr s.1, s.2)
+
+pub flat_map-mem : {A B : Type 0} (f : A → List B) (xs : List A) (x : A) (w : B) → IsMember x xs → IsMember w (f x) → IsMember w (flat_map f xs)
+flat_map-mem f [] x w m k = absurd m
+flat_map-mem f (y ∷ ys) x w (inl e) k = mem-left (f y) (flat_map f ys) w (rw (← e) k)
+flat_map-mem f (y ∷ ys) x w (inr m) k = mem-right (f y) (flat_map f ys) w (flat_map-mem f ys x w m k)

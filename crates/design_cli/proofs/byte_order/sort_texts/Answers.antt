@@ -1,0 +1,12 @@
+use Rattle.std.proofs.Common.{rules, tests}
+use Rattle.std.proofs.lemmas.List.Sorted.{answers_always}
+use Rattle.std.proofs.lemmas.Cmp.{nat_list_cmp_total}
+use Rattle.std.specs.Cmp.Lexicographic.{slice_cmp}
+use Rattle.std.specs.Ordering.{nat_cmp}
+use Rattle.design_cli.specs.ByteOrder.{is_before}
+use Rattle.design_cli.proofs.OrderLaws.{weak}
+use Rattle.design_cli.proofs.byte_order.sort_texts.Goals as goal
+
+pub returns-clause-sorted : goal.returns-clause-sorted
+returns-clause-sorted c =
+    c.sort_unstable_by.ensures.sorted is_before (weak (slice_cmp nat_cmp) nat_list_cmp_total) (answers_always _ _ _ (λ f a r g k. search (rules, tests)))

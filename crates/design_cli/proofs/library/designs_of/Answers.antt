@@ -1,0 +1,11 @@
+use Rattle.std.proofs.Common.{ap, Err}
+use Rattle.design_cli.proofs.JudgedLaws.{refused_here, all_written}
+use Rattle.design_cli.proofs.library.designs_of.Goals as goal
+
+pub returns-in-Err-NotPlain-clause-refused : goal.returns-in-Err-NotPlain-clause-refused
+returns-in-Err-NotPlain-clause-refused c =
+    refused_here c.args.files.now c.loop-at.at c.index-files-at.result c.loop-at-test.true c.index-files-at.is c.loop-at.invariant.1
+    c.refusal-in-Err-NotPlain.result c.refusal-in-Err-NotPlain.ensures (c.in-Err-NotPlain.ensures.none (ap Err c.in-Err-NotPlain.field-0-is))
+
+pub returns-clause-designs : goal.returns-clause-designs
+returns-clause-designs c = all_written c.args.files.now c.loop-at.designs.items c.loop-at.at c.loop-at-test.false c.loop-at.invariant.0

@@ -1,0 +1,16 @@
+pub mod Names
+pub mod Plain
+pub mod Reading
+pub mod Texts
+pub mod PrintOrder
+pub mod Report
+pub mod Words
+pub mod ByteOrder
+pub mod Enough
+pub mod Feasible
+pub mod Rows
+pub mod Judged
+pub mod Library
+pub mod Listing
+pub mod Lines
+pub mod Outcome

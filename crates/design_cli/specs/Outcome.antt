@@ -1,0 +1,156 @@
+-- What `solve` answers.
+use Rattle.std.specs.Prelude.{◌≡◌, ◌⊎◌, ℕ, List, Option, Some, None, Result, Ok, Err, take, length, find}
+use Rattle.std.specs.Str.{bytes_eq}
+use Rattle.order_core.specs.declared.num.Num.{Num}
+use Rattle.design_world.specs.Bytes.{followed}
+use Rattle.design_world.specs.Files.{File}
+use Rattle.design_cli.specs.declared.library.Design.{Design}
+use Rattle.design_cli.specs.declared.library.FileRead.{FileRead}
+use Rattle.design_cli.specs.declared.plain.catalogue.Catalogue.{Catalogue}
+use Rattle.design_cli.specs.declared.status.Status.{Status}
+use Rattle.design_cli.specs.declared.status.Status.TheVariants.{Done, Usage, LibraryRefused, QueryRefused, FolderFault, SinkFault, Memory}
+use Rattle.design_cli.specs.declared.status.LibraryFault.{LibraryFault}
+use Rattle.design_cli.specs.declared.status.LibraryFault.TheVariants as library
+use Rattle.design_cli.specs.declared.status.QueryFault.{QueryFault}
+use Rattle.design_cli.specs.declared.status.QueryFault.TheVariants as query
+use Rattle.design_cli.specs.Feasible.{AreMinima}
+use Rattle.design_cli.specs.Judged.{AllWrite, FirstWritesNone}
+use Rattle.design_cli.specs.Library.{AreAccepted, IsDesign, IsFirstRefused}
+use Rattle.design_cli.specs.Plain.{IsQuery}
+use Rattle.design_cli.specs.Report.{report}
+
+-- The text is the report of the minima of a catalogue for what the query writes.
+pub record IsReportOf (catalogue : Catalogue) (asked text : List ℕ) : Type 0 where
+  pub f : List Num
+  pub is_query : IsQuery asked (length catalogue.provides) f
+  pub rows : List (List Num)
+  pub minima : AreMinima catalogue f rows
+  pub text_is : text ≡ report rows
+
+-- ---- of the files of a folder
+
+-- The library is accepted, and the text is the report of its design of this name.
+pub record IsReport (files : List File) (name asked text : List ℕ) : Type 0 where
+  pub accepted : AreAccepted files
+  pub catalogue : Catalogue
+  pub design : IsDesign files name catalogue
+  pub report_of : IsReportOf catalogue asked text
+
+-- The library is accepted, and has no design of this name.
+pub record HasNoDesign (files : List File) (name : List ℕ) : Type 0 where
+  pub accepted : AreAccepted files
+  pub none : (catalogue : Catalogue) → IsDesign files name catalogue → ⊥
+
+-- The library is accepted and has the design, but the text writes no query for it.
+pub record HasNoQuery (files : List File) (name asked : List ℕ) : Type 0 where
+  pub accepted : AreAccepted files
+  pub catalogue : Catalogue
+  pub design : IsDesign files name catalogue
+  pub none : (f : List Num) → IsQuery asked (length catalogue.provides) f → ⊥
+
+-- Why a library or a query was refused.
+abbrev pub IsLibraryRefusal : List File → LibraryFault → Type 0
+IsLibraryRefusal files (library.NotYet file) = IsFirstRefused files file
+
+abbrev pub IsQueryRefusal : List File → List ℕ → List ℕ → QueryFault → Type 0
+IsQueryRefusal files name asked query.NoDesign = HasNoDesign files name
+IsQueryRefusal files name asked query.NotYet = HasNoQuery files name asked
+
+-- The bytes that were written are first bytes of a report.
+abbrev pub WroteFirst : List File → List ℕ → List ℕ → Option (List ℕ) → Option (List ℕ) → Type 0
+WroteFirst files name asked before now = (text : List ℕ) × IsReport files name asked text × (count : ℕ) × (now ≡ followed before (take count text))
+
+-- What a status says of the files, the design's name and the query, and of the bytes that were written before and now.
+abbrev pub Says : List File → List ℕ → List ℕ → Option (List ℕ) → Option (List ℕ) → Status → Type 0
+Says files name asked before now Done = (text : List ℕ) × IsReport files name asked text × (now ≡ followed before text)
+Says files name asked before now (LibraryRefused fault) = IsLibraryRefusal files fault × (now ≡ before)
+Says files name asked before now (QueryRefused fault) = IsQueryRefusal files name asked fault × (now ≡ before)
+Says files name asked before now FolderFault = now ≡ before
+Says files name asked before now SinkFault = WroteFirst files name asked before now
+Says files name asked before now Memory = (now ≡ before) ⊎ WroteFirst files name asked before now
+Says files name asked before now Usage = ⊥
+
+-- ---- of the files that were read
+
+-- Each file writes its design, and the text is the report of the one of this name.
+pub record Answers (files : List FileRead) (name asked text : List ℕ) : Type 0 where
+  pub designs : List Design
+  pub written : AllWrite files designs
+  pub design : Design
+  pub found : find (λ design. bytes_eq design.name name) designs ≡ Some design
+  pub report_of : IsReportOf design.catalogue asked text
+
+pub record FindsNone (files : List FileRead) (name : List ℕ) : Type 0 where
+  pub designs : List Design
+  pub written : AllWrite files designs
+  pub none : find (λ design. bytes_eq design.name name) designs ≡ None
+
+pub record AsksNone (files : List FileRead) (name asked : List ℕ) : Type 0 where
+  pub designs : List Design
+  pub written : AllWrite files designs
+  pub design : Design
+  pub found : find (λ design. bytes_eq design.name name) designs ≡ Some design
+  pub none : (f : List Num) → IsQuery asked (length design.catalogue.provides) f → ⊥
+
+abbrev pub RefusesQuery : List FileRead → List ℕ → List ℕ → QueryFault → Type 0
+RefusesQuery files name asked query.NoDesign = FindsNone files name
+RefusesQuery files name asked query.NotYet = AsksNone files name asked
+
+abbrev pub RefusesLibrary : List FileRead → LibraryFault → Type 0
+RefusesLibrary files (library.NotYet file) = FirstWritesNone files file
+
+-- What a refusal says of the files that were read.
+abbrev pub Refuses : List FileRead → List ℕ → List ℕ → Status → Type 0
+Refuses files name asked (LibraryRefused fault) = RefusesLibrary files fault
+Refuses files name asked (QueryRefused fault) = RefusesQuery files name asked fault
+Refuses files name asked Memory = Unit {0}
+Refuses files name asked status = ⊥
+
+-- What the answer to a question says of the files that were read: a report, or a refusal.
+abbrev pub Replies : List FileRead → List ℕ → List ℕ → Result (List ℕ) Status → Type 0
+Replies files name asked (Ok text) = Answers files name asked text
+Replies files name asked (Err status) = Refuses files name asked status
+
+-- What the answer to a query says of the catalogue.
+abbrev pub AnswersQuery : Catalogue → List ℕ → Result (List ℕ) Status → Type 0
+AnswersQuery catalogue asked (Ok text) = IsReportOf catalogue asked text
+AnswersQuery catalogue asked (Err (QueryRefused query.NotYet)) = (f : List Num) → IsQuery asked (length catalogue.provides) f → ⊥
+AnswersQuery catalogue asked (Err Memory) = Unit {0}
+AnswersQuery catalogue asked (Err status) = ⊥
+
+-- What solving says of the files of the folder.
+abbrev pub Solves : List File → List ℕ → List ℕ → Result (List ℕ) Status → Type 0
+Solves files name asked (Ok text) = IsReport files name asked text
+Solves files name asked (Err (LibraryRefused fault)) = IsLibraryRefusal files fault
+Solves files name asked (Err (QueryRefused fault)) = IsQueryRefusal files name asked fault
+Solves files name asked (Err FolderFault) = Unit {0}
+Solves files name asked (Err Memory) = Unit {0}
+Solves files name asked (Err status) = ⊥
+
+-- A status that comes before anything is written.
+abbrev pub EndsEarly : Status → Type 0
+EndsEarly Done = ⊥
+EndsEarly Usage = ⊥
+EndsEarly SinkFault = ⊥
+EndsEarly status = Unit {0}
+
+-- What writing a report says of the bytes that were written before and now.
+abbrev pub Writing : List ℕ → Option (List ℕ) → Option (List ℕ) → Status → Type 0
+Writing text before now Done = now ≡ followed before text
+Writing text before now SinkFault = (count : ℕ) × (now ≡ followed before (take count text))
+Writing text before now Memory = (count : ℕ) × (now ≡ followed before (take count text))
+Writing text before now status = ⊥
+
+-- A fact that holds where nothing was written.
+abbrev pub BeforeWriting : Status → Type 0 → Type 0
+BeforeWriting Usage P = P
+BeforeWriting (LibraryRefused fault) P = P
+BeforeWriting (QueryRefused fault) P = P
+BeforeWriting FolderFault P = P
+BeforeWriting status P = Unit {0}
+
+-- No device failed.
+abbrev pub NoFault : Status → Type 0
+NoFault FolderFault = ⊥
+NoFault SinkFault = ⊥
+NoFault status = Unit {0}

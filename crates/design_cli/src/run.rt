@@ -1,0 +1,120 @@
+ghost use Rattle.std.specs.Prelude.{◌≡◌, ◌≢◌, ◌↔◌, ◌⊎◌, ◌≤◌, ℕ, Err, IfErr, IsTrue, List, None, length, map};
+ghost use Rattle.std.specs.Option.{ForSome};
+ghost use Rattle.order_core.specs.declared.num.Num.{Num};
+ghost use Rattle.design_world.specs.Bytes.{followed};
+ghost use Rattle.design_world.specs.Fault.{NeverFall, Rose};
+ghost use Rattle.design_world.specs.Files.{SameFiles};
+ghost use Rattle.design_cli.specs.declared.plain.catalogue.Catalogue.{Catalogue};
+ghost use Rattle.design_cli.specs.Feasible.{AreMinima};
+ghost use Rattle.design_cli.specs.Library.{AreAccepted, IsDesign, IsFirstRefused};
+ghost use Rattle.design_cli.specs.Outcome.{BeforeWriting, HasNoDesign, HasNoQuery, EndsEarly, NoFault, Says, Solves, Writing};
+ghost use Rattle.design_cli.specs.Plain.{IsQuery};
+ghost use Rattle.design_cli.specs.Report.{report};
+ghost use Rattle.design_cli.specs.Words.{asked_by};
+
+use crate::answer::answer;
+use crate::listing::read_folder;
+use crate::status::{LibraryFault, QueryFault, Status};
+use crate::words::question_of;
+use design_world::{Folder, Sink, Source, WorldFault, put_all};
+use order_core::Text;
+use std::alloc::Global;
+
+/// The report of a design of the library at a place, for a query.
+fn solve<F: Folder>(
+    alloc: Global,
+    folder: &mut F,
+    place: &str,
+    name: &str,
+    query: &str,
+) -> Result<Text, Status>
+    ensures same { SameFiles (F.files folder.old) (F.files folder.new) }
+    ensures counts { NeverFall (F.faults folder.old) (F.faults folder.new) }
+    ensures fault { result ≡ Err Status.FolderFault → Rose (F.faults folder.old place.now) (F.faults folder.new place.now) }
+    ensures reliable { IsTrue (F.is_reliable folder.old) →
+        ((place : List ℕ) → F.faults folder.new place ≡ F.faults folder.old place) × (result ≢ Err Status.FolderFault) }
+    ensures early { IfErr result EndsEarly }
+    ensures solves { ForSome (F.files folder.old place.now) (λ files. Solves files name.now query.now result) }
+{
+    let files = match read_folder(alloc, folder, place) {
+        Ok(files) => files,
+        Err(WorldFault::Failed) => return Err(Status::FolderFault),
+        Err(WorldFault::Memory) => return Err(Status::Memory),
+    };
+    answer(alloc, &files, name, query)
+}
+
+/// Writes a report.
+fn write_report<K: Sink>(alloc: Global, out: &mut K, report: &Text) -> Status
+    ensures writing { Writing report.now (K.written out.old) (K.written out.new) result }
+    ensures later { K.faults out.old ≤ K.faults out.new }
+    ensures fault { result ≡ Status.SinkFault → Rose (K.faults out.old) (K.faults out.new) }
+    ensures reliable { IsTrue (K.is_reliable out.old) → (K.faults out.new ≡ K.faults out.old) × (result ≢ Status.SinkFault) }
+{
+    match put_all(alloc, out, report.as_str().as_bytes()) {
+        Ok(()) => Status::Done,
+        Err(WorldFault::Failed) => Status::SinkFault,
+        Err(WorldFault::Memory) => Status::Memory,
+    }
+}
+
+/// Answers the words, from the library in a folder: writes the least resources of a design for a functionality.
+///
+/// The folder is asked at the place that the words name. A count rose where it is greater at the return
+/// than at the call, or stands at the greatest `u64`.
+pub fn run<F: Folder, S: Source, K: Sink>(
+    alloc: Global,
+    words: &[&str],
+    folder: &mut F,
+    input: &mut S,
+    out: &mut K,
+) -> Status
+    // Where the library is accepted, has the design and the query is one of it, and no device failed, exactly the
+    // minimal rows are written, unless memory was wanting.
+    ensures headline { ForSome (asked_by (map (λ word. word.now) words.now)) (λ asked. ForSome (F.files folder.old asked.place) (λ files.
+        (catalogue : Catalogue) (f : List Num) → AreAccepted files → IsDesign files asked.name catalogue → IsQuery asked.query (length catalogue.provides) f
+        → (Rose (F.faults folder.old asked.place) (F.faults folder.new asked.place) → ⊥) → (Rose (K.faults out.old) (K.faults out.new) → ⊥) → result ≢ Status.Memory
+        → (result ≡ Status.Done) × (rows : List (List Num)) × AreMinima catalogue f rows × (K.written out.new ≡ followed (K.written out.old) (report rows)))) }
+
+    // With reliable devices an accepted library and query are answered, unless memory was wanting.
+    ensures complete { IsTrue (F.is_reliable folder.old) → IsTrue (K.is_reliable out.old) → ForSome (asked_by (map (λ word. word.now) words.now)) (λ asked. ForSome (F.files folder.old asked.place) (λ files.
+        (catalogue : Catalogue) (f : List Num) → AreAccepted files → IsDesign files asked.name catalogue → IsQuery asked.query (length catalogue.provides) f
+        → (result ≡ Status.Done) ⊎ (result ≡ Status.Memory))) }
+
+    // What each status says of the files, the name and the query, and of the bytes that were written.
+    ensures says { ForSome (asked_by (map (λ word. word.now) words.now)) (λ asked. ForSome (F.files folder.old asked.place) (λ files.
+        Says files asked.name asked.query (K.written out.old) (K.written out.new) result)) }
+
+    // When each refusal comes.
+    ensures usage { (result ≡ Status.Usage) ↔ (asked_by (map (λ word. word.now) words.now) ≡ None) }
+    ensures library_refused { ForSome (asked_by (map (λ word. word.now) words.now)) (λ asked. ForSome (F.files folder.old asked.place) (λ files.
+        (file : List ℕ) → IsFirstRefused files file → (Rose (F.faults folder.old asked.place) (F.faults folder.new asked.place) → ⊥) → result ≢ Status.Memory
+        → result ≡ Status.LibraryRefused (LibraryFault.NotYet file))) }
+    ensures no_design { ForSome (asked_by (map (λ word. word.now) words.now)) (λ asked. ForSome (F.files folder.old asked.place) (λ files.
+        HasNoDesign files asked.name → (Rose (F.faults folder.old asked.place) (F.faults folder.new asked.place) → ⊥) → result ≢ Status.Memory
+        → result ≡ Status.QueryRefused QueryFault.NoDesign)) }
+    ensures no_query { ForSome (asked_by (map (λ word. word.now) words.now)) (λ asked. ForSome (F.files folder.old asked.place) (λ files.
+        HasNoQuery files asked.name asked.query → (Rose (F.faults folder.old asked.place) (F.faults folder.new asked.place) → ⊥) → result ≢ Status.Memory
+        → result ≡ Status.QueryRefused QueryFault.NotYet)) }
+
+    // When each fault comes.
+    ensures folder_fault { result ≡ Status.FolderFault → ForSome (asked_by (map (λ word. word.now) words.now)) (λ asked.
+        Rose (F.faults folder.old asked.place) (F.faults folder.new asked.place)) }
+    ensures sink_fault { result ≡ Status.SinkFault → Rose (K.faults out.old) (K.faults out.new) }
+    ensures reliable { IsTrue (F.is_reliable folder.old) → IsTrue (K.is_reliable out.old) →
+        NoFault result × ((place : List ℕ) → F.faults folder.new place ≡ F.faults folder.old place) × (K.faults out.new ≡ K.faults out.old) }
+
+    // What stays as it was.
+    ensures same { SameFiles (F.files folder.old) (F.files folder.new) }
+    ensures counts { NeverFall (F.faults folder.old) (F.faults folder.new) × (K.faults out.old ≤ K.faults out.new) }
+    ensures unwritten { BeforeWriting result (out.new ≡ out.old) }
+    ensures unread { input.new ≡ input.old }
+{
+    let Some(question) = question_of(words) else {
+        return Status::Usage;
+    };
+    match solve(alloc, folder, question.place, question.name, question.query) {
+        Ok(report) => write_report(alloc, out, &report),
+        Err(status) => status,
+    }
+}
