@@ -5,7 +5,7 @@ use Rattle.order_core.specs.Members.{IsMember}
 use Rattle.order_core.specs.Minimal.{IsMinimal}
 use Rattle.order_core.specs.Incomparable.{one_of}
 
--- x is at most an element that the list has below y
+-- some element of the list is at most y
 abbrev pub Below : {A : Type 0} → (A → A → Bool) → List A → A → Type 0
 Below {A = A} leq xs y = (x : A) × IsMember x xs × IsTrue (leq x y)
 

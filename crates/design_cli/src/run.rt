@@ -88,13 +88,13 @@ pub fn run<F: Folder, S: Source, K: Sink>(
     // When each refusal comes.
     ensures usage { (result ≡ Status.Usage) ↔ (asked_by (map (λ word. word.now) words.now) ≡ None) }
     ensures library_refused { ForSome (asked_by (map (λ word. word.now) words.now)) (λ asked. ForSome (F.files folder.old asked.place) (λ files.
-        (file : List ℕ) → IsFirstRefused files file → (Rose (F.faults folder.old asked.place) (F.faults folder.new asked.place) → ⊥) → result ≢ Status.Memory
+        (file : List ℕ) → IsFirstRefused files file → result ≢ Status.FolderFault → result ≢ Status.Memory
         → result ≡ Status.LibraryRefused (LibraryFault.NotYet file))) }
     ensures no_design { ForSome (asked_by (map (λ word. word.now) words.now)) (λ asked. ForSome (F.files folder.old asked.place) (λ files.
-        HasNoDesign files asked.name → (Rose (F.faults folder.old asked.place) (F.faults folder.new asked.place) → ⊥) → result ≢ Status.Memory
+        HasNoDesign files asked.name → result ≢ Status.FolderFault → result ≢ Status.Memory
         → result ≡ Status.QueryRefused QueryFault.NoDesign)) }
     ensures no_query { ForSome (asked_by (map (λ word. word.now) words.now)) (λ asked. ForSome (F.files folder.old asked.place) (λ files.
-        HasNoQuery files asked.name asked.query → (Rose (F.faults folder.old asked.place) (F.faults folder.new asked.place) → ⊥) → result ≢ Status.Memory
+        HasNoQuery files asked.name asked.query → result ≢ Status.FolderFault → result ≢ Status.Memory
         → result ≡ Status.QueryRefused QueryFault.NotYet)) }
 
     // When each fault comes.

@@ -90,6 +90,11 @@ fn run_on_motors(alloc: Global, words: &[&str]) -> Result<Ran, Fail> {
 fn motors(rt: HostRuntime) -> Result<(), Fail> {
     let done = run_on_motors(rt.alloc(), &["solve", "lib", "motors", "90"])?;
     expect(&rt, &done, 0, "", "finished 2\n8, 7\n10, 5\n");
+    Ok(())
+}
+
+#[test]
+fn motors_too_heavy(rt: HostRuntime) -> Result<(), Fail> {
     let too_heavy = run_on_motors(rt.alloc(), &["solve", "lib", "motors", "201"])?;
     expect(&rt, &too_heavy, 0, "", "infeasible\n");
     Ok(())
@@ -109,7 +114,7 @@ fn same_mass(rt: HostRuntime) -> Result<(), Fail> {
 }
 
 #[test]
-fn refused_queries(rt: HostRuntime) -> Result<(), Fail> {
+fn small_refusals(rt: HostRuntime) -> Result<(), Fail> {
     let alloc = rt.alloc();
     let empty = folder(alloc, vec![in alloc]?, &[])?;
     let no_design = run_on(alloc, &["solve", "lib", "motors", "90"], empty, &[])?;

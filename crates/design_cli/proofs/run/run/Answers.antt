@@ -18,31 +18,31 @@ pub returns-in-Ok-clause-no_design : goal.returns-in-Ok-clause-no_design
 returns-in-Ok-clause-no_design g c = for_question _ _ (record { place = c.in-Some.question.place.now; name = c.in-Some.question.name.now; query = c.in-Some.question.query.now }) c.in-Some.ensures (λ files told none nofolder memory.
     no_design_of files c.in-Some.question.name.now c.in-Some.question.query.now _ _ c.write_report.result
     (says_written files c.in-Some.question.name.now c.in-Some.question.query.now c.in-Ok.report _ _ c.write_report.result (c.in-Ok.ensures.solves files told) c.write_report.ensures.writing)
-    (not_folder _ _ _ c.write_report.result c.write_report.ensures.writing) memory none)
+    nofolder memory none)
 
 pub returns-in-Err-clause-no_design : goal.returns-in-Err-clause-no_design
 returns-in-Err-clause-no_design g c = for_question _ _ (record { place = c.in-Some.question.place.now; name = c.in-Some.question.name.now; query = c.in-Some.question.query.now }) c.in-Some.ensures (λ files told none nofolder memory.
     no_design_of files c.in-Some.question.name.now c.in-Some.question.query.now None None c.in-Err.status
     (says_refused files c.in-Some.question.name.now c.in-Some.question.query.now None c.in-Err.status (c.in-Err.ensures.solves files told))
-    (λ e. nofolder (c.in-Err.ensures.fault (ap Err e))) memory none)
+    nofolder memory none)
 
 pub returns-in-Ok-clause-no_query : goal.returns-in-Ok-clause-no_query
 returns-in-Ok-clause-no_query g c = for_question _ _ (record { place = c.in-Some.question.place.now; name = c.in-Some.question.name.now; query = c.in-Some.question.query.now }) c.in-Some.ensures (λ files told none nofolder memory.
     no_query_of files c.in-Some.question.name.now c.in-Some.question.query.now _ _ c.write_report.result
     (says_written files c.in-Some.question.name.now c.in-Some.question.query.now c.in-Ok.report _ _ c.write_report.result (c.in-Ok.ensures.solves files told) c.write_report.ensures.writing)
-    (not_folder _ _ _ c.write_report.result c.write_report.ensures.writing) memory none)
+    nofolder memory none)
 
 pub returns-in-Err-clause-no_query : goal.returns-in-Err-clause-no_query
 returns-in-Err-clause-no_query g c = for_question _ _ (record { place = c.in-Some.question.place.now; name = c.in-Some.question.name.now; query = c.in-Some.question.query.now }) c.in-Some.ensures (λ files told none nofolder memory.
     no_query_of files c.in-Some.question.name.now c.in-Some.question.query.now None None c.in-Err.status
     (says_refused files c.in-Some.question.name.now c.in-Some.question.query.now None c.in-Err.status (c.in-Err.ensures.solves files told))
-    (λ e. nofolder (c.in-Err.ensures.fault (ap Err e))) memory none)
+    nofolder memory none)
 
 pub returns-in-Err-clause-library_refused : goal.returns-in-Err-clause-library_refused
 returns-in-Err-clause-library_refused g c = for_question _ _ (record { place = c.in-Some.question.place.now; name = c.in-Some.question.name.now; query = c.in-Some.question.query.now }) c.in-Some.ensures (λ files told file refused nofolder memory.
     library_of files c.in-Some.question.name.now c.in-Some.question.query.now None None c.in-Err.status
     (says_refused files c.in-Some.question.name.now c.in-Some.question.query.now None c.in-Err.status (c.in-Err.ensures.solves files told))
-    (λ e. nofolder (c.in-Err.ensures.fault (ap Err e))) memory file refused)
+    nofolder memory file refused)
 
 pub returns-in-Ok-clause-complete : goal.returns-in-Ok-clause-complete
 returns-in-Ok-clause-complete g c = λ folder sink. for_question _ _ (record { place = c.in-Some.question.place.now; name = c.in-Some.question.name.now; query = c.in-Some.question.query.now }) c.in-Some.ensures (λ files told catalogue f accepted design query.
