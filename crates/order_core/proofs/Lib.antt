@@ -1,3 +1,3 @@
+pub mod ClosingSteps
 pub mod Growth
-pub mod Partners
-pub mod Product
+pub mod MinimalSteps

@@ -1,5 +1,5 @@
 -- The members of a list, and tests of all or some of them.
-use Rattle.std.proofs.Common.{◌≡◌, ◌∙◌, refl, sym, ap, Bool, true, false, ◌&&◌, ◌||◌, not, IsTrue, List, [], ◌∷◌, ◌++◌, cond, filter, map, ◌⊎◌, inl, inr}
+use Rattle.std.proofs.Common.{arith, ℕ, zero, suc, ◌<◌, length, get_or, ◌≡◌, ◌∙◌, refl, sym, ap, Bool, true, false, ◌&&◌, ◌||◌, not, IsTrue, List, [], ◌∷◌, ◌++◌, cond, filter, map, ◌⊎◌, inl, inr}
 use Rattle.std.specs.List.{list_all, list_any, flat_map}
 
 -- x is an item of the list
@@ -62,6 +62,12 @@ all_elim p (x ∷ xs) w h (inr m) = all_elim p xs w (second (p x) _ h) m
 pub all_intro : {A : Type 0} (p : A → Bool) (xs : List A) → ((w : A) → IsMember w xs → IsTrue (p w)) → IsTrue (list_all p xs)
 all_intro p [] h = refl
 all_intro p (x ∷ xs) h = both _ _ (h x (inl refl)) (all_intro p xs (λ w m. h w (inr m)))
+
+-- an item by its place
+pub all_at : {A : Type 0} (p : A → Bool) (xs : List A) (i : ℕ) (d : A) → IsTrue (list_all p xs) → i < length xs → IsTrue (p (get_or xs i d))
+all_at p [] i d h l = absurd (omega arith)
+all_at p (x ∷ xs) zero d h l = first _ _ h
+all_at p (x ∷ xs) (suc i) d h l = all_at p xs i d (second (p x) _ h) (omega arith)
 
 pub mem-left : {A : Type 0} (xs ys : List A) (w : A) → IsMember w xs → IsMember w (xs ++ ys)
 mem-left [] ys w m = absurd m

@@ -1,5 +1,5 @@
 -- Numbers, by size.
-use Rattle.std.specs.Prelude.{◌≡◌, Bool, true, false, nat_le, max, IsTrue}
+use Rattle.std.specs.Prelude.{◌≡◌, ◌+◌, ◌*◌, ℕ, Bool, true, false, cond, nat_le, nat_eq, min, max, IsTrue}
 use Rattle.order_core.specs.Order.{IsOrder}
 use Rattle.order_core.specs.declared.num.Num.{Num}
 use Rattle.order_core.specs.declared.num.Num.TheVariants.{Count, Top}
@@ -22,6 +22,27 @@ abbrev pub greater_of : Num → Num → Num
 greater_of (Count a) (Count b) = Count (max a b)
 greater_of Top b = Top
 greater_of (Count a) Top = Top
+
+abbrev pub lesser_of : Num → Num → Num
+lesser_of (Count a) (Count b) = Count (min a b)
+lesser_of Top b = b
+lesser_of (Count a) Top = Count a
+
+-- the count, or Top where it is greater than the greatest count
+abbrev pub count_or_top : ℕ → Num
+count_or_top n = cond (nat_le n 10000000000000000000) (Count n) Top
+
+abbrev pub number_sum : Num → Num → Num
+number_sum (Count a) (Count b) = count_or_top (a + b)
+number_sum Top b = Top
+number_sum (Count a) Top = Top
+
+-- Zero times anything is zero, Top included.
+abbrev pub number_product : Num → Num → Num
+number_product (Count a) (Count b) = count_or_top (a * b)
+number_product (Count a) Top = cond (nat_eq a 0) (Count 0) Top
+number_product Top (Count b) = cond (nat_eq b 0) (Count 0) Top
+number_product Top Top = Top
 
 pub number_laws : IsOrder is_number number_leq
 number_laws = record { reflexive = reflexive; transitive = transitive; antisymmetric = antisymmetric }

@@ -1,17 +1,30 @@
 //! Lists, texts, numbers, and orders on values.
 #![tactic(auto)]
 
+mod choices;
+mod closing;
+mod finite;
 mod list;
+mod minimal;
 mod num;
+mod num_laws;
 mod order;
 mod text;
 mod tuple;
+mod upper;
+mod word;
 
+pub use choices::{Copier, copied, product_of};
+pub use finite::{FiniteOrder, OrderFault};
 pub use list::List;
 pub use num::{MAX_COUNT, Num, NumOrder};
+pub use num_laws::{
+    number_operations_are_commutative, number_operations_are_monotone, numbers_make_numbers,
+};
 pub use order::{NoMemory, Order};
 pub use text::Text;
 pub use tuple::TupleOrder;
+pub use upper::UpperOrder;
 
 #[cfg(test)]
 mod tests;

@@ -1,5 +1,14 @@
 ghost use Rattle.std.specs.Prelude.{◌≡◌};
-ghost use Rattle.order_core.specs.Num.{is_number, number_leq, number_laws, greater_of};
+ghost use Rattle.order_core.specs.Num.{
+  is_number,
+  number_leq,
+  number_laws,
+  greater_of,
+  lesser_of,
+  count_or_top,
+  number_sum,
+  number_product,
+};
 
 use crate::list::List;
 use crate::order::{NoMemory, Order};
@@ -27,6 +36,78 @@ impl Num {
             },
             Num::Top => Num::Top,
         }
+    }
+
+    /// The lesser of two numbers.
+    pub fn lesser(self, other: Num) -> Num
+        ensures { result ≡ lesser_of self other }
+    {
+        match self {
+            Num::Count(a) => match other {
+                Num::Count(b) => Num::Count(a.min(b)),
+                Num::Top => self,
+            },
+            Num::Top => other,
+        }
+    }
+
+    /// The sum of two numbers, which is Top where it is greater than `MAX_COUNT`.
+    pub fn plus(self, other: Num) -> Num
+        ensures { result ≡ number_sum self other }
+    {
+        match self {
+            Num::Count(a) => match other {
+                Num::Count(b) => match a.checked_add(b) {
+                    Some(sum) => count_or_top(sum),
+                    None => Num::Top,
+                },
+                Num::Top => Num::Top,
+            },
+            Num::Top => Num::Top,
+        }
+    }
+
+    /// The product of two numbers, which is Top where it is greater than `MAX_COUNT`.
+    ///
+    /// Zero times Top is zero, and any other number times Top is Top.
+    pub fn times(self, other: Num) -> Num
+        ensures { result ≡ number_product self other }
+    {
+        match self {
+            Num::Count(a) => match other {
+                Num::Count(b) => match a.checked_mul(b) {
+                    Some(product) => count_or_top(product),
+                    None => Num::Top,
+                },
+                Num::Top => top_times(a),
+            },
+            Num::Top => match other {
+                Num::Count(b) => top_times(b),
+                Num::Top => Num::Top,
+            },
+        }
+    }
+}
+
+/// The count, or Top where it is greater than `MAX_COUNT`.
+fn count_or_top(n: u64) -> Num
+    ensures { result ≡ count_or_top n }
+{
+    if n <= MAX_COUNT {
+        Num::Count(n)
+    } else {
+        Num::Top
+    }
+}
+
+/// Top times the count.
+fn top_times(n: u64) -> Num
+    ensures { result ≡ number_product Num.Top (Num.Count n) }
+{
+    if n == 0 {
+        Num::Count(0)
+    } else {
+        Num::Top
     }
 }
 

@@ -1,0 +1,20 @@
+-- The minimal elements of a set of a finite order's elements.
+use Rattle.std.specs.Prelude.{◌≢◌, ◌<◌, ◌↔◌, ℕ, IsTrue, List}
+use Rattle.order_core.specs.Finite.{is_element, is_below}
+use Rattle.order_core.specs.Members.{IsMember}
+use Rattle.order_core.specs.Minimal.{IsMinimal}
+use Rattle.order_core.specs.Upper.{rise_from}
+use Rattle.order_core.specs.Word.{has}
+
+-- The element is in the set that the word holds.
+abbrev pub IsIn : List ℕ → ℕ → ℕ → Type 0
+IsIn table word x = IsTrue (is_element table x) × IsTrue (has word x)
+
+-- Another number of the set, one below k, is at most x.
+abbrev pub IsCovered : ℕ → List ℕ → ℕ → ℕ → Type 0
+IsCovered k table word x = (y : ℕ) × (y < k) × IsTrue (has word y) × (y ≢ x) × IsTrue (is_below table y x)
+
+-- The rising list of the minimal elements of the set.
+pub record AreMinimal (table : List ℕ) (word : ℕ) (xs : List ℕ) : Type 0 where
+  pub rising : IsTrue (rise_from 0 xs)
+  pub members : (x : ℕ) → IsMember x xs ↔ IsMinimal (is_below table) (IsIn table word) x

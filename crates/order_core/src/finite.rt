@@ -1,0 +1,106 @@
+ghost use Rattle.std.specs.Prelude.{◌≡◌, ◌≤◌, length, IsTrue, IfOk, slice_index};
+ghost use Rattle.std.specs.List.{list_all};
+ghost use Rattle.order_core.specs.Finite.{is_element, is_below, IsTable};
+ghost use Rattle.order_core.specs.MinimalElements.{AreMinimal};
+
+use crate::closing::{closure, first_mutual};
+use crate::list::List;
+use crate::minimal::minimal_elements;
+use crate::order::{NoMemory, Order};
+use crate::word::has;
+use std::alloc::Global;
+
+/// A partial order on the numbers below 64 or fewer, its elements.
+///
+/// It keeps for each element a word whose bits are the elements that it is at most.
+#[derive(Drop)]
+pub struct FiniteOrder {
+    table: List<u64>,
+    pub ghost is_table: { IsTable table },
+}
+
+/// Why pairs make no order.
+#[derive(Clone, Copy, Debug, PartialEq, Eq)]
+pub enum OrderFault {
+    /// The first two different elements, the lesser one first, that walks through the pairs lead to and from.
+    Cycle(u32, u32),
+    /// Memory was refused.
+    Memory,
+}
+
+impl FiniteOrder {
+    ghost use Rattle.order_core.specs.Walk.{is_pair_below};
+    ghost use Rattle.order_core.specs.Closing.{Closes};
+
+    /// The order of the numbers below `n` in which `a` is at most `b` where a walk through the pairs leads from `a` to `b`.
+    ///
+    /// Cycle comes exactly where walks lead both ways between two different elements.
+    pub fn close(alloc: Global, n: u32, pairs: &[(u32, u32)]) -> Result<FiniteOrder, OrderFault>
+        requires some { 1 ≤ n }
+        requires few { n ≤ 64 }
+        requires pairs { IsTrue (list_all (is_pair_below n) pairs.now) }
+        ensures { Closes n pairs.now result }
+    {
+        let Ok(table) = closure(alloc, n, pairs) else {
+            return Err(OrderFault::Memory);
+        };
+        match first_mutual(table.as_slice()) {
+            Some((a, b)) => Err(OrderFault::Cycle(a, b)),
+            None => Ok(FiniteOrder {
+                table: List::of(table),
+            }),
+        }
+    }
+
+    /// How many elements there are.
+    pub fn size(&self) -> u32
+        ensures { result ≡ length self.now.table }
+    {
+        self.table.items().len() as u32
+    }
+
+    /// The elements that the element is at most, as a word.
+    pub(crate) fn row(&self, element: u32) -> u64
+        requires { IsTrue (is_element self.now.table element) }
+        ensures { result ≡ slice_index self.now.table element }
+    {
+        self.table.items()[element as usize]
+    }
+
+    /// The minimal elements of the set that the word holds, in rising order.
+    pub(crate) fn minimal(&self, alloc: Global, word: u64) -> Result<List<u32>, NoMemory>
+        ensures { IfOk result (AreMinimal self.now.table word) }
+    {
+        minimal_elements(alloc, self.table.items(), word)
+    }
+}
+
+impl Order for FiniteOrder {
+    type Item = u32;
+
+    ghost is_value = { λ o. is_element o.table };
+
+    ghost leq = { λ o. is_below o.table };
+
+    fn is_value(&self, a: &u32) -> bool {
+        (*a as usize) < self.table.items().len()
+    }
+
+    fn leq(&self, a: &u32, b: &u32) -> bool {
+        has(self.row(*a), *b)
+    }
+
+    fn copy(&self, _alloc: Global, a: &u32) -> Result<u32, NoMemory> {
+        Ok(*a)
+    }
+
+    fn least(&self, alloc: Global) -> Result<List<u32>, NoMemory> {
+        self.minimal(alloc, u64::MAX)
+    }
+
+    fn bounds(&self, alloc: Global, a: &u32, b: &u32) -> Result<List<u32>, NoMemory> {
+        self.minimal(alloc, self.row(*a) & self.row(*b))
+    }
+
+    ghost laws = { λ o. o.is_table.order };
+}

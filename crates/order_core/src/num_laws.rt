@@ -1,0 +1,37 @@
+ghost use Rattle.std.specs.Prelude.{◌≡◌, IsTrue};
+ghost use Rattle.order_core.specs.Num.{
+  is_number,
+  number_leq,
+  greater_of,
+  lesser_of,
+  number_sum,
+  number_product,
+};
+ghost use Rattle.order_core.specs.declared.num.Num.{Num};
+
+/// The greater and the lesser of two numbers, their sum and their product are numbers.
+pub fn numbers_make_numbers()
+    ensures greater { (x y : Num) → IsTrue (is_number x) → IsTrue (is_number y) → IsTrue (is_number (greater_of x y)) }
+    ensures lesser { (x y : Num) → IsTrue (is_number x) → IsTrue (is_number y) → IsTrue (is_number (lesser_of x y)) }
+    ensures sum { (x y : Num) → IsTrue (is_number (number_sum x y)) }
+    ensures product { (x y : Num) → IsTrue (is_number (number_product x y)) }
+{
+}
+
+/// The greater and the lesser of two numbers, their sum and their product are the greater the greater both are.
+pub fn number_operations_are_monotone()
+    ensures greater { (x y z w : Num) → IsTrue (number_leq x z) → IsTrue (number_leq y w) → IsTrue (number_leq (greater_of x y) (greater_of z w)) }
+    ensures lesser { (x y z w : Num) → IsTrue (number_leq x z) → IsTrue (number_leq y w) → IsTrue (number_leq (lesser_of x y) (lesser_of z w)) }
+    ensures sum { (x y z w : Num) → IsTrue (number_leq x z) → IsTrue (number_leq y w) → IsTrue (number_leq (number_sum x y) (number_sum z w)) }
+    ensures product { (x y z w : Num) → IsTrue (number_leq x z) → IsTrue (number_leq y w) → IsTrue (number_leq (number_product x y) (number_product z w)) }
+{
+}
+
+/// Sums and products don't depend on the order, and zero and one leave the other number as it is.
+pub fn number_operations_are_commutative()
+    ensures sum { (x y : Num) → number_sum x y ≡ number_sum y x }
+    ensures zero { (x : Num) → IsTrue (is_number x) → number_sum (Num.Count 0) x ≡ x }
+    ensures product { (x y : Num) → number_product x y ≡ number_product y x }
+    ensures one { (x : Num) → IsTrue (is_number x) → number_product (Num.Count 1) x ≡ x }
+{
+}

@@ -1,0 +1,28 @@
+ghost use Rattle.std.specs.Prelude.{◌≡◌, ◌<◌, ◌≤◌, IfOk};
+ghost use Rattle.order_core.specs.Word.{has, members_below};
+
+use crate::list::List;
+use crate::order::NoMemory;
+use std::alloc::Global;
+
+/// Whether the number is in the set that the word holds.
+pub fn has(word: u64, number: u32) -> bool
+    requires { number < 64 }
+    ensures { result ≡ has word number }
+{
+    (word >> number) & 1 == 1
+}
+
+/// The numbers below `n` in the set that the word holds, in rising order.
+pub fn members_below(alloc: Global, n: u32, word: u64) -> Result<List<u32>, NoMemory>
+    requires { n ≤ 64 }
+    ensures { IfOk result (λ made. made ≡ members_below n word) }
+{
+    let mut made = Vec::new(alloc);
+    for number in 0..n {
+        if has(word, number) && made.push(number).is_err() {
+            return Err(NoMemory);
+        }
+    }
+    Ok(List::of(made))
+}

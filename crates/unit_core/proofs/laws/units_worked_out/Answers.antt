@@ -1,0 +1,8 @@
+use Rattle.std.proofs.Common.{refl}
+use Rattle.unit_core.specs.Measure.{power-one}
+use Rattle.unit_core.specs.UnitTable.{units}
+use Rattle.unit_core.proofs.laws.units_worked_out.Goals as goal
+
+pub returns : goal.returns
+unfolding units
+returns c = record { named = refl; unknown = refl; one = power-one }

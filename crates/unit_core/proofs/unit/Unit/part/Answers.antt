@@ -1,0 +1,6 @@
+use Rattle.std.proofs.Common.{arith}
+use Rattle.unit_core.specs.Gcd.{gcd-one_left}
+use Rattle.unit_core.proofs.unit.Unit.part.Goals as goal
+
+pub invariant_of-size : goal.invariant_of-size
+invariant_of-size c = record { whole = omega arith; reduced = gcd-one_left _; num_in_range = omega arith; den_in_range = omega arith }

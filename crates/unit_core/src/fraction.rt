@@ -1,0 +1,85 @@
+ghost use Rattle.std.specs.Prelude.{◌≡◌, ◌<◌, ◌≤◌};
+ghost use Rattle.unit_core.specs.Gcd.{gcd};
+
+use crate::divisor::greatest_common_divisor;
+use crate::fault::FractionFault;
+
+/// The greatest numerator and denominator.
+pub const MAX_PART: u64 = 10_000_000_000_000_000_000;
+
+/// A fraction of whole numbers in lowest terms, each at most `MAX_PART`.
+///
+/// Zero is 0/1.
+#[derive(Clone, Copy, Debug, PartialEq, Eq)]
+pub struct Fraction {
+    pub num: u64,
+    pub den: u64,
+    pub ghost whole: { 0 < den },
+    pub ghost reduced: { gcd num den ≡ 1 },
+    pub ghost num_in_range: { num ≤ 10000000000000000000 },
+    pub ghost den_in_range: { den ≤ 10000000000000000000 },
+}
+
+impl Fraction {
+    ghost use Rattle.unit_core.specs.Ratio.{quotient, ratio, times_ratio, over_ratio};
+    ghost use Rattle.unit_core.specs.Results.{map_ok};
+    ghost use Rattle.unit_core.specs.Rounding.{ceiling, floor, IsRoundedUp, IsRoundedDown};
+
+    /// The fraction num/den.
+    pub fn new(num: u128, den: u128) -> Result<Fraction, FractionFault>
+        ensures { map_ok ratio result ≡ quotient num den }
+    {
+        if den == 0 {
+            return Err(FractionFault::Zero);
+        }
+        let divisor = greatest_common_divisor(num, den);
+        let reduced_num = num / divisor;
+        let reduced_den = den / divisor;
+        if reduced_num > MAX_PART as u128 {
+            return Err(FractionFault::Range);
+        }
+        if reduced_den > MAX_PART as u128 {
+            return Err(FractionFault::Range);
+        }
+        Ok(Fraction {
+            num: reduced_num as u64,
+            den: reduced_den as u64,
+        })
+    }
+
+    /// The product.
+    pub fn times(self, other: Fraction) -> Result<Fraction, FractionFault>
+        ensures { map_ok ratio result ≡ times_ratio (ratio self) (ratio other) }
+    {
+        Fraction::new(
+            self.num as u128 * other.num as u128,
+            self.den as u128 * other.den as u128,
+        )
+    }
+
+    /// The quotient.
+    pub fn over(self, other: Fraction) -> Result<Fraction, FractionFault>
+        ensures { map_ok ratio result ≡ over_ratio (ratio self) (ratio other) }
+    {
+        Fraction::new(
+            self.num as u128 * other.den as u128,
+            self.den as u128 * other.num as u128,
+        )
+    }
+
+    /// The least whole number that is at least the fraction.
+    pub fn round_up(self) -> u64
+        ensures value { result ≡ ceiling self.num self.den }
+        ensures rounded { IsRoundedUp self.num self.den result }
+    {
+        self.num.div_ceil(self.den)
+    }
+
+    /// The greatest whole number that is at most the fraction.
+    pub fn round_down(self) -> u64
+        ensures value { result ≡ floor self.num self.den }
+        ensures rounded { IsRoundedDown self.num self.den result }
+    {
+        self.num / self.den
+    }
+}

@@ -1,0 +1,16 @@
+-- The forms of values.
+use Rattle.std.specs.Prelude.{Bool, true, false}
+use Rattle.value_type.specs.declared.value.Value.TheOpen.{Value-F}
+use Rattle.value_type.specs.Fits.{Layer}
+
+abbrev pub is_one : Layer → Bool
+is_one (Value-F.El x) = true
+is_one _ = false
+
+abbrev pub is_many : Layer → Bool
+is_many (Value-F.Tup xs) = true
+is_many _ = false
+
+abbrev pub is_set : Layer → Bool
+is_set (Value-F.Up xs) = true
+is_set _ = false

@@ -1,0 +1,37 @@
+ghost use Rattle.std.specs.Prelude.{◌≡◌, IfOk};
+
+use crate::value::Value;
+use order_core::{List, NoMemory};
+use std::alloc::Global;
+
+/// A value equal to this one.
+#[cycle(copy)]
+pub fn copy_value(alloc: Global, value: &Value) -> Result<Value, NoMemory>
+    ensures { IfOk result (λ made. made ≡ value.now) }
+{
+    match value {
+        Value::Num(n) => Ok(Value::Num(*n)),
+        Value::Top => Ok(Value::Top),
+        Value::El(element) => Ok(Value::El(*element)),
+        Value::Tup(parts) => Ok(Value::Tup(List::of(copy_values(alloc, parts.items())?))),
+        Value::Up(members) => match members.items().to_vec(alloc) {
+            Ok(members) => Ok(Value::Up(List::of(members))),
+            Err(_) => Err(NoMemory),
+        },
+    }
+}
+
+/// Values equal to these, in order.
+#[cycle(copy)]
+pub fn copy_values(alloc: Global, values: &[Value]) -> Result<Vec<Value>, NoMemory>
+    ensures { IfOk result (λ made. made.items ≡ values.now) }
+{
+    let mut made = Vec::new(alloc);
+    for value in values {
+        let copy = copy_value(alloc, value)?;
+        if made.push(copy).is_err() {
+            return Err(NoMemory);
+        }
+    }
+    Ok(made)
+}

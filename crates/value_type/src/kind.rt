@@ -1,0 +1,30 @@
+ghost use Rattle.std.specs.Prelude.{true};
+
+use crate::copy::copy_value;
+use crate::value::Value;
+use order_core::{Copier, List, NoMemory};
+use std::alloc::Global;
+use unit_core::Dim;
+
+/// A type of values.
+#[derive(Debug, Drop)]
+pub enum Kind {
+    /// Numbers that count units of this dimension.
+    Num(Dim),
+    /// The elements of the poset of this number.
+    Fin(u32),
+    /// Tuples with one value of each of these types.
+    Prod(List<Kind>),
+    /// The upper sets of the poset of this number.
+    Up(u32),
+}
+
+impl Copier for Kind {
+    type Item = Value;
+
+    ghost can_copy = { λ kind value. true };
+
+    fn copy_of(&self, alloc: Global, a: &Value) -> Result<Value, NoMemory> {
+        copy_value(alloc, a)
+    }
+}

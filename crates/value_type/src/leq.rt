@@ -1,0 +1,102 @@
+ghost use Rattle.std.specs.Prelude.{◌≡◌, IsTrue, map};
+ghost use Rattle.std.specs.Option.{option_copied};
+ghost use Rattle.order_core.specs.Tuple.{tuple_leq};
+ghost use Rattle.value_type.specs.Fits as fit;
+ghost use Rattle.value_type.specs.Leq as spec;
+ghost use Rattle.value_type.specs.declared.value.Value.{out-Value};
+
+use crate::kind::Kind;
+use crate::poset::{Poset, Types};
+use crate::value::Value;
+use order_core::{Order, UpperOrder};
+
+/// Whether `a` is at most `b`, both values of this type.
+#[cycle(leq)]
+pub fn leq(types: &Types, kind: &Kind, a: &Value, b: &Value) -> bool
+    requires a_fits { IsTrue (fit.fits types.now kind.now a.now) }
+    requires b_fits { IsTrue (fit.fits types.now kind.now b.now) }
+    ensures { result ≡ spec.leq types.now kind.now a.now b.now }
+{
+    match kind {
+        Kind::Num(_) => number_leq(a, b),
+        Kind::Fin(k) => element_leq(types.posets.get(*k as usize), a, b),
+        Kind::Prod(kinds) => match a {
+            Value::Tup(xs) => match b {
+                Value::Tup(ys) => leq_all(types, kinds.items(), xs.items(), ys.items()),
+                _ => false,
+            },
+            _ => false,
+        },
+        Kind::Up(k) => set_leq(types.posets.get(*k as usize), a, b),
+    }
+}
+
+/// Whether each of the first values is at most its partner.
+#[cycle(leq)]
+#[tactic(auto, using(order_core::specs::Partners::are_values_length))]
+pub fn leq_all(types: &Types, kinds: &[Kind], xs: &[Value], ys: &[Value]) -> bool
+    requires xs_fit { IsTrue (fit.row_fits types.now kinds.now xs.now) }
+    requires ys_fit { IsTrue (fit.row_fits types.now kinds.now ys.now) }
+    ensures { result ≡ spec.row_leq types.now kinds.now xs.now ys.now }
+{
+    for (at, kind) in kinds.iter().enumerate() {
+        if !leq(types, kind, &xs[at], &ys[at]) {
+            return false;
+        }
+    }
+    true
+}
+
+fn number_leq(a: &Value, b: &Value) -> bool
+    ensures { result ≡ spec.number_leq (out-Value a.now) (out-Value b.now) }
+{
+    match a {
+        Value::Num(x) => match b {
+            Value::Num(y) => *x <= *y,
+            Value::Top => true,
+            _ => false,
+        },
+        Value::Top => match b {
+            Value::Top => true,
+            _ => false,
+        },
+        _ => false,
+    }
+}
+
+fn element_leq(poset: Option<&Poset>, a: &Value, b: &Value) -> bool
+    requires a_fits { IsTrue (fit.is_element (option_copied poset) (out-Value a.now)) }
+    requires b_fits { IsTrue (fit.is_element (option_copied poset) (out-Value b.now)) }
+    ensures { result ≡ spec.element_leq (option_copied poset.entry) (out-Value a.now) (out-Value b.now) }
+{
+    match poset {
+        None => false,
+        Some(poset) => match a {
+            Value::El(x) => match b {
+                Value::El(y) => poset.order.leq(x, y),
+                _ => false,
+            },
+            _ => false,
+        },
+    }
+}
+
+fn set_leq(poset: Option<&Poset>, a: &Value, b: &Value) -> bool
+    requires a_fits { IsTrue (fit.is_upper (option_copied poset) (out-Value a.now)) }
+    requires b_fits { IsTrue (fit.is_upper (option_copied poset) (out-Value b.now)) }
+    ensures { result ≡ spec.set_leq (option_copied poset.entry) (out-Value a.now) (out-Value b.now) }
+{
+    match poset {
+        None => false,
+        Some(poset) => {
+            let order = UpperOrder { base: &poset.order };
+            match a {
+                Value::Up(xs) => match b {
+                    Value::Up(ys) => order.leq(xs, ys),
+                    _ => false,
+                },
+                _ => false,
+            }
+        }
+    }
+}

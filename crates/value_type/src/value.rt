@@ -1,0 +1,22 @@
+use order_core::List;
+
+/// A value of some type.
+#[derive(Debug, Drop)]
+pub enum Value {
+    /// A whole count.
+    Num(u64),
+    /// The number that is greater than every count.
+    Top,
+    /// The element of a poset with this number.
+    El(u32),
+    /// A tuple.
+    Tup(List<Value>),
+    /// An upper set of a poset: its minimal elements in rising order.
+    Up(List<u32>),
+}
+
+impl Default for Value {
+    fn default() -> Value {
+        Value::Top
+    }
+}
