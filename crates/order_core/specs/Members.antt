@@ -1,5 +1,5 @@
 -- The members of a list, and tests of all or some of them.
-use Rattle.std.proofs.Common.{arith, ℕ, zero, suc, ◌<◌, length, get_or, ◌≡◌, ◌∙◌, refl, sym, ap, Bool, true, false, ◌&&◌, ◌||◌, not, IsTrue, List, [], ◌∷◌, ◌++◌, cond, filter, map, ◌⊎◌, inl, inr}
+use Rattle.std.proofs.Common.{slice_get, Some, subst, arith, ℕ, zero, suc, ◌<◌, length, get_or, ◌≡◌, ◌∙◌, refl, sym, ap, Bool, true, false, ◌&&◌, ◌||◌, not, IsTrue, List, [], ◌∷◌, ◌++◌, cond, filter, map, ◌⊎◌, inl, inr}
 use Rattle.std.specs.List.{list_all, list_any, flat_map}
 
 -- x is an item of the list
@@ -153,3 +153,9 @@ pub flat_map-mem : {A B : Type 0} (f : A → List B) (xs : List A) (x : A) (w : 
 flat_map-mem f [] x w m k = absurd m
 flat_map-mem f (y ∷ ys) x w (inl e) k = mem-left (f y) (flat_map f ys) w (rw (← e) k)
 flat_map-mem f (y ∷ ys) x w (inr m) k = mem-right (f y) (flat_map f ys) w (flat_map-mem f ys x w m k)
+
+-- an item that is found passes where all do
+pub all_got : {A : Type 0} (p : A → Bool) (xs : List A) (i : ℕ) (x : A) → slice_get xs i ≡ Some x → IsTrue (list_all p xs) → IsTrue (p x)
+all_got p [] i x e h = absurd (cc)
+all_got p (y ∷ ys) zero x e h = let same : y ≡ x = cc in subst (λ z. IsTrue (p z)) same (first _ _ h)
+all_got p (y ∷ ys) (suc i) x e h = all_got p ys i x e (second (p y) _ h)

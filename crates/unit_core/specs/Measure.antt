@@ -6,7 +6,7 @@ use Rattle.unit_core.specs.declared.fault.UnitFault.{UnitFault}
 use Rattle.unit_core.specs.declared.fault.UnitFault.TheVariants.{Exponent, Range}
 use Rattle.unit_core.specs.declared.unit.Unit.{Unit}
 use Rattle.unit_core.specs.Dimension.{are_exponents, dim_over, dim_times, is_exponent}
-use Rattle.unit_core.specs.Ratio.{Ratio, ratio, over_ratio, times_ratio}
+use Rattle.unit_core.specs.Ratio.{Ratio, ratio, over_ratio, quotient, times_ratio}
 use Rattle.unit_core.specs.Gcd.{gcd, gcd_within}
 use Rattle.unit_core.specs.Results.{and_then}
 use Rattle.std.proofs.Common.{refl}
@@ -27,10 +27,10 @@ sized d (Err e) = Err Range
 abbrev pub tested : Dim → Result Ratio FractionFault → Result Measure UnitFault
 tested d size = cond (are_exponents d) (sized d size) (Err Exponent)
 
-abbrev pub times_measure : Measure → Measure → Result Measure UnitFault
+unfoldable pub times_measure : Measure → Measure → Result Measure UnitFault
 times_measure u v = tested (dim_times u.dim v.dim) (times_ratio u.size v.size)
 
-abbrev pub over_measure : Measure → Measure → Result Measure UnitFault
+unfoldable pub over_measure : Measure → Measure → Result Measure UnitFault
 over_measure u v = tested (dim_over u.dim v.dim) (over_ratio u.size v.size)
 
 -- no dimension, and the size 1
@@ -46,7 +46,7 @@ steps step zero u = Ok u
 steps step (suc n) u = and_then (steps step n) (step u)
 
 -- 1, multiplied by u or divided by it as often as the exponent says
-abbrev pub power_measure : Measure → ℤ → Result Measure UnitFault
+unfoldable pub power_measure : Measure → ℤ → Result Measure UnitFault
 power_measure u (pos n) = steps (λ v. times_measure v u) n one
 power_measure u (negsuc n) = steps (λ v. over_measure v u) (suc n) one
 
@@ -57,7 +57,7 @@ steps_still step h zero = refl
 steps_still step h (suc n) = rw h (steps_still step h n)
 
 pub power-one : (n : ℤ) → power_measure one n ≡ Ok one
-unfolding gcd gcd_within is_exponent
+unfolding gcd gcd_within is_exponent over_measure over_ratio power_measure quotient times_measure times_ratio
 power-one (pos n) = steps_still (λ v. times_measure v one) refl n
 power-one (negsuc n) = steps_still (λ v. over_measure v one) refl (suc n)
 

@@ -4,6 +4,7 @@ use Prim.Native.Nat.{◌∣◌}
 use Rattle.unit_core.specs.declared.fault.FractionFault.{FractionFault}
 use Rattle.unit_core.specs.declared.fault.FractionFault.TheVariants.{Range, Zero}
 use Rattle.unit_core.specs.declared.fraction.Fraction.{Fraction}
+pub use Rattle.unit_core.specs.Range.{greatest_part}
 use Rattle.unit_core.specs.Gcd.{gcd, gcd-IsGcd, gcd-comm, gcd-mul, dvd_other}
 use Rattle.std.proofs.Common.{refl, sym, ◌∙◌, ap, arith, subst}
 use Rattle.std.proofs.Math.Nat.{mul-div_cancel', dvd_antisymm, dvd-mul_left, pos_of_dvd_of_pos, eq_of_mul-eq-mul_left, eq_of_mul-eq-mul_right, mul-le-mul}
@@ -20,22 +21,19 @@ ratio f = record { num = f.num; den = f.den }
 abbrev pub lowest : ℕ → ℕ → Ratio
 lowest a b = record { num = a / gcd a b; den = b / gcd a b }
 
--- the greatest numerator and denominator, ten to the nineteenth
-abbrev pub greatest_part : ℕ
-greatest_part = 10000000000000000000
-
-abbrev pub in_range : Ratio → Result Ratio FractionFault
-in_range r = cond (nat_le r.num greatest_part && nat_le r.den greatest_part) (Ok r) (Err Range)
+-- the ratio, if both parts are in range
+abbrev pub ranged : Ratio → Result Ratio FractionFault
+ranged r = cond (nat_le r.num greatest_part && nat_le r.den greatest_part) (Ok r) (Err Range)
 
 -- a over b
-abbrev pub quotient : ℕ → ℕ → Result Ratio FractionFault
+unfoldable pub quotient : ℕ → ℕ → Result Ratio FractionFault
 quotient a zero = Err Zero
-quotient a (suc b) = in_range (lowest a (suc b))
+quotient a (suc b) = ranged (lowest a (suc b))
 
-abbrev pub times_ratio : Ratio → Ratio → Result Ratio FractionFault
+unfoldable pub times_ratio : Ratio → Ratio → Result Ratio FractionFault
 times_ratio x y = quotient (x.num * y.num) (x.den * y.den)
 
-abbrev pub over_ratio : Ratio → Ratio → Result Ratio FractionFault
+unfoldable pub over_ratio : Ratio → Ratio → Result Ratio FractionFault
 over_ratio x y = quotient (x.num * y.den) (x.den * y.num)
 
 -- The ratio is a over b, and no number but 1 divides both parts.
@@ -108,6 +106,18 @@ lowest_scaled k a b h p =
     let same : (lowest a b).num * (k * b) ≡ (k * a) * (lowest a b).den = omega arith in
     sym (lowest_only (k * a) (k * b) (lowest a b) (mul-le-mul h p) (record { same = same; whole = l.whole; reduced = l.reduced }))
 
+-- To multiply in lowest terms, and then to reduce, is to reduce once.
+pub lowest_product : (a b n d : ℕ) → 0 < b → 0 < d → lowest ((lowest a b).num * n) ((lowest a b).den * d) ≡ lowest (a * n) (b * d)
+lowest_product a b n d p q =
+    at (gcd a b) (lowest a b).num (lowest a b).den (lowest-num a b) (lowest-den a b) (divisor_pos a b p) (lowest_is a b p).whole
+  where
+    at : (g x y : ℕ) → g * x ≡ a → g * y ≡ b → 0 < g → 0 < y → lowest (x * n) (y * d) ≡ lowest (a * n) (b * d)
+    at g x y e f h w =
+        let once : lowest (g * (x * n)) (g * (y * d)) ≡ lowest (x * n) (y * d) = lowest_scaled g (x * n) (y * d) h (mul-le-mul w q) in
+        let num : g * (x * n) ≡ a * n = omega arith ∙ ap (λ v. v * n) e in
+        let den : g * (y * d) ≡ b * d = omega arith ∙ ap (λ v. v * d) f in
+        sym once ∙ (ap (λ v. lowest v (g * (y * d))) num ∙ ap (λ v. lowest (a * n) v) den)
+
 pub lowest-num_pos : (a b : ℕ) → 0 < a → 0 < (lowest a b).num
 lowest-num_pos a b p = pos (gcd a b) (lowest a b).num (lowest-num a b)
   where
@@ -115,13 +125,26 @@ lowest-num_pos a b p = pos (gcd a b) (lowest a b).num (lowest-num a b)
     pos g zero e = absurd (omega arith)
     pos g (suc n) e = omega arith
 
-in_range_ok : (x r : Ratio) → Ok r ≡ in_range x → (r ≡ x) × (r.num ≤ greatest_part) × (r.den ≤ greatest_part)
-in_range_ok x r e = grind (arith, nat_tests)
+ranged_ok : (x r : Ratio) → Ok r ≡ ranged x → (r ≡ x) × (r.num ≤ greatest_part) × (r.den ≤ greatest_part)
+ranged_ok x r e = grind (arith, nat_tests)
 
 -- What a quotient is, where there is one.
 pub quotient_ok : (a b : ℕ) (r : Ratio) → Ok r ≡ quotient a b → (0 < b) × (r ≡ lowest a b) × (r.num ≤ greatest_part) × (r.den ≤ greatest_part)
+unfolding quotient
 quotient_ok a zero r e = absurd (cc)
-quotient_ok a (suc b) r e = let k = in_range_ok (lowest a (suc b)) r e in (omega arith, k.0, k.1, k.2)
+quotient_ok a (suc b) r e = let k = ranged_ok (lowest a (suc b)) r e in (omega arith, k.0, k.1, k.2)
 
 pub quotient-num_pos : (a b : ℕ) (r : Ratio) → Ok r ≡ quotient a b → 0 < a → 0 < r.num
 quotient-num_pos a b r e p = let k = quotient_ok a b r e in rw k.1 (lowest-num_pos a b p)
+
+pub quotient-pos : (a b : ℕ) → 0 < b → quotient a b ≡ ranged (lowest a b)
+unfolding quotient
+quotient-pos a zero p = absurd (omega arith)
+quotient-pos a (suc b) p = refl
+
+-- What is in lowest terms and in range is its own quotient.
+pub quotient_same : (r : Ratio) → 0 < r.den → gcd r.num r.den ≡ 1 → r.num ≤ greatest_part → r.den ≤ greatest_part → quotient r.num r.den ≡ Ok r
+quotient_same r p h n d = quotient-pos r.num r.den p ∙ (ap ranged (lowest_same r p h) ∙ fits)
+  where
+    fits : ranged r ≡ Ok r
+    fits = grind (arith, nat_tests)

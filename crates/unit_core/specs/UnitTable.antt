@@ -1,5 +1,5 @@
 -- The units that have a name.
-use Rattle.std.specs.Prelude.{ℕ, pos, negsuc, List, [], ◌∷◌, ◌++◌, cond, Option, Some, None, codes}
+use Rattle.std.specs.Prelude.{ℕ, ◌*◌, ◌^◌, pos, negsuc, List, [], ◌∷◌, ◌++◌, cond, Option, Some, None, codes}
 use Rattle.std.specs.Str.{bytes_eq}
 use Rattle.unit_core.specs.declared.dim.Dim.{Dim}
 use Rattle.unit_core.specs.Measure.{Measure, one}
@@ -12,113 +12,111 @@ pub record Named : Type 0 where
 abbrev pub named : List ℕ → Dim → ℕ → ℕ → Named
 named name dim num den = record { name = name; measure = record { dim = dim; size = record { num = num; den = den } } }
 
-abbrev pub mass : Dim
-mass = record one.dim { mass = pos 1 }
+abbrev pub of_mass : Dim
+of_mass = record one.dim { mass = pos 1 }
 
-abbrev pub distance : Dim
-distance = record one.dim { length = pos 1 }
+abbrev pub of_length : Dim
+of_length = record one.dim { length = pos 1 }
 
-abbrev pub time : Dim
-time = record one.dim { time = pos 1 }
+abbrev pub of_time : Dim
+of_time = record one.dim { time = pos 1 }
 
-abbrev pub frequency : Dim
-frequency = record one.dim { time = negsuc 0 }
+abbrev pub of_current : Dim
+of_current = record one.dim { current = pos 1 }
 
-abbrev pub current : Dim
-current = record one.dim { current = pos 1 }
+abbrev pub of_money : Dim
+of_money = record one.dim { money = pos 1 }
 
-abbrev pub charge : Dim
-charge = record one.dim { current = pos 1; time = pos 1 }
+abbrev pub of_bits : Dim
+of_bits = record one.dim { bits = pos 1 }
 
-abbrev pub money : Dim
-money = record one.dim { money = pos 1 }
+-- time -1
+abbrev pub of_frequency : Dim
+of_frequency = record one.dim { time = negsuc 0 }
 
-abbrev pub bits : Dim
-bits = record one.dim { bits = pos 1 }
+-- mass 1, length 1, time -2
+abbrev pub of_force : Dim
+of_force = record one.dim { mass = pos 1; length = pos 1; time = negsuc 1 }
 
--- mass, length 1, time -2
-abbrev pub force : Dim
-force = record one.dim { mass = pos 1; length = pos 1; time = negsuc 1 }
+-- mass 1, length 2, time -2
+abbrev pub of_energy : Dim
+of_energy = record one.dim { mass = pos 1; length = pos 2; time = negsuc 1 }
 
--- mass, length 2, time -2
-abbrev pub energy : Dim
-energy = record one.dim { mass = pos 1; length = pos 2; time = negsuc 1 }
+-- mass 1, length 2, time -3
+abbrev pub of_power : Dim
+of_power = record one.dim { mass = pos 1; length = pos 2; time = negsuc 2 }
 
--- mass, length 2, time -3
-abbrev pub power : Dim
-power = record one.dim { mass = pos 1; length = pos 2; time = negsuc 2 }
+-- mass 1, length 2, time -3, current -1
+abbrev pub of_voltage : Dim
+of_voltage = record one.dim { mass = pos 1; length = pos 2; time = negsuc 2; current = negsuc 0 }
 
--- mass, length 2, time -3, current -1
-abbrev pub voltage : Dim
-voltage = record one.dim { mass = pos 1; length = pos 2; time = negsuc 2; current = negsuc 0 }
+abbrev pub of_charge : Dim
+of_charge = record one.dim { current = pos 1; time = pos 1 }
 
--- in g
 abbrev pub mass_units : List Named
 mass_units =
-    named (codes "g") mass 1 1
-    ∷ named (codes "kg") mass 1000 1
-    ∷ named (codes "mg") mass 1 1000
-    ∷ named (codes "t") mass 1000000 1
+    named (codes "g") of_mass 1 1
+    ∷ named (codes "kg") of_mass 1000 1
+    ∷ named (codes "mg") of_mass 1 1000
+    ∷ named (codes "t") of_mass (10 ^ 6) 1
     ∷ []
 
--- in mm
 abbrev pub length_units : List Named
 length_units =
-    named (codes "mm") distance 1 1
-    ∷ named (codes "cm") distance 10 1
-    ∷ named (codes "m") distance 1000 1
-    ∷ named (codes "km") distance 1000000 1
+    named (codes "mm") of_length 1 1
+    ∷ named (codes "cm") of_length 10 1
+    ∷ named (codes "m") of_length 1000 1
+    ∷ named (codes "km") of_length (10 ^ 6) 1
     ∷ []
 
--- in s, and per s
 abbrev pub time_units : List Named
 time_units =
-    named (codes "s") time 1 1
-    ∷ named (codes "ms") time 1 1000
-    ∷ named (codes "min") time 60 1
-    ∷ named (codes "h") time 3600 1
-    ∷ named (codes "day") time 86400 1
-    ∷ named (codes "Hz") frequency 1 1
+    named (codes "s") of_time 1 1
+    ∷ named (codes "ms") of_time 1 1000
+    ∷ named (codes "min") of_time 60 1
+    ∷ named (codes "h") of_time 3600 1
+    ∷ named (codes "day") of_time 86400 1
     ∷ []
 
--- in mA, mA s and g mm² / (s³ mA)
-abbrev pub electric_units : List Named
-electric_units =
-    named (codes "mA") current 1 1
-    ∷ named (codes "A") current 1000 1
-    ∷ named (codes "mAh") charge 3600 1
-    ∷ named (codes "Ah") charge 3600000 1
-    ∷ named (codes "V") voltage 1000000 1
+abbrev pub current_units : List Named
+current_units =
+    named (codes "mA") of_current 1 1
+    ∷ named (codes "A") of_current 1000 1
     ∷ []
 
--- in cents
 abbrev pub money_units : List Named
 money_units =
-    named (codes "cent") money 1 1
-    ∷ named (codes "USD") money 100 1
+    named (codes "cent") of_money 1 1
+    ∷ named (codes "USD") of_money 100 1
     ∷ []
 
--- in bits
 abbrev pub data_units : List Named
 data_units =
-    named (codes "bit") bits 1 1
-    ∷ named (codes "byte") bits 8 1
-    ∷ named (codes "kbit") bits 1000 1
-    ∷ named (codes "Mbit") bits 1000000 1
-    ∷ named (codes "kbyte") bits 8000 1
-    ∷ named (codes "Mbyte") bits 8000000 1
+    named (codes "bit") of_bits 1 1
+    ∷ named (codes "byte") of_bits 8 1
+    ∷ named (codes "kbit") of_bits 1000 1
+    ∷ named (codes "Mbit") of_bits (10 ^ 6) 1
+    ∷ named (codes "kbyte") of_bits 8000 1
+    ∷ named (codes "Mbyte") of_bits (8 * 10 ^ 6) 1
     ∷ []
 
--- in g mm / s², g mm² / s² and g mm² / s³
 abbrev pub mechanical_units : List Named
 mechanical_units =
-    named (codes "N") force 1000000 1
-    ∷ named (codes "J") energy 1000000000 1
-    ∷ named (codes "Wh") energy 3600000000000 1
-    ∷ named (codes "kWh") energy 3600000000000000 1
-    ∷ named (codes "mW") power 1000000 1
-    ∷ named (codes "W") power 1000000000 1
-    ∷ named (codes "kW") power 1000000000000 1
+    named (codes "Hz") of_frequency 1 1
+    ∷ named (codes "N") of_force (10 ^ 6) 1
+    ∷ named (codes "J") of_energy (10 ^ 9) 1
+    ∷ named (codes "Wh") of_energy (36 * 10 ^ 11) 1
+    ∷ named (codes "kWh") of_energy (36 * 10 ^ 14) 1
+    ∷ named (codes "mW") of_power (10 ^ 6) 1
+    ∷ named (codes "W") of_power (10 ^ 9) 1
+    ∷ named (codes "kW") of_power (10 ^ 12) 1
+    ∷ []
+
+abbrev pub electric_units : List Named
+electric_units =
+    named (codes "V") of_voltage (10 ^ 6) 1
+    ∷ named (codes "mAh") of_charge 3600 1
+    ∷ named (codes "Ah") of_charge 3600000 1
     ∷ []
 
 -- the measure of the first entry of that name
@@ -127,7 +125,7 @@ find name [] = None
 find name (entry ∷ entries) = cond (bytes_eq name entry.name) (Some entry.measure) (find name entries)
 
 unfoldable pub units : List Named
-units = mass_units ++ length_units ++ time_units ++ electric_units ++ money_units ++ data_units ++ mechanical_units
+units = mass_units ++ length_units ++ time_units ++ current_units ++ money_units ++ data_units ++ mechanical_units ++ electric_units
 
-abbrev pub unit_named : List ℕ → Option Measure
+unfoldable pub unit_named : List ℕ → Option Measure
 unit_named name = find name units

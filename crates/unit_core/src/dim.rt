@@ -45,7 +45,7 @@ fn difference(a: i8, b: i8) -> Option<i8>
 
 impl Dim {
     /// The exponents of a product, or `None` where one is out of range.
-    pub fn times(self, other: Dim) -> Option<Dim>
+    pub(crate) fn times(self, other: Dim) -> Option<Dim>
         ensures { result ≡ cond (are_exponents (dim_times self other)) (Some (dim_times self other)) None }
     {
         Some(Dim {
@@ -59,7 +59,7 @@ impl Dim {
     }
 
     /// The exponents of a quotient, or `None` where one is out of range.
-    pub fn over(self, other: Dim) -> Option<Dim>
+    pub(crate) fn over(self, other: Dim) -> Option<Dim>
         ensures { result ≡ cond (are_exponents (dim_over self other)) (Some (dim_over self other)) None }
     {
         Some(Dim {

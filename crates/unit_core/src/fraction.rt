@@ -1,5 +1,6 @@
 ghost use Rattle.std.specs.Prelude.{◌≡◌, ◌<◌, ◌≤◌};
 ghost use Rattle.unit_core.specs.Gcd.{gcd};
+ghost use Rattle.unit_core.specs.Range.{greatest_part};
 
 use crate::divisor::greatest_common_divisor;
 use crate::fault::FractionFault;
@@ -16,8 +17,8 @@ pub struct Fraction {
     pub den: u64,
     pub ghost whole: { 0 < den },
     pub ghost reduced: { gcd num den ≡ 1 },
-    pub ghost num_in_range: { num ≤ 10000000000000000000 },
-    pub ghost den_in_range: { den ≤ 10000000000000000000 },
+    pub ghost num_in_range: { num ≤ greatest_part },
+    pub ghost den_in_range: { den ≤ greatest_part },
 }
 
 impl Fraction {
@@ -26,6 +27,7 @@ impl Fraction {
     ghost use Rattle.unit_core.specs.Rounding.{ceiling, floor, IsRoundedUp, IsRoundedDown};
 
     /// The fraction num/den.
+    #[tactic(auto, unfolding(crate::specs::Ratio::quotient))]
     pub fn new(num: u128, den: u128) -> Result<Fraction, FractionFault>
         ensures { map_ok ratio result ≡ quotient num den }
     {
@@ -48,6 +50,7 @@ impl Fraction {
     }
 
     /// The product.
+    #[tactic(auto, unfolding(crate::specs::Ratio::times_ratio))]
     pub fn times(self, other: Fraction) -> Result<Fraction, FractionFault>
         ensures { map_ok ratio result ≡ times_ratio (ratio self) (ratio other) }
     {
@@ -58,6 +61,7 @@ impl Fraction {
     }
 
     /// The quotient.
+    #[tactic(auto, unfolding(crate::specs::Ratio::over_ratio))]
     pub fn over(self, other: Fraction) -> Result<Fraction, FractionFault>
         ensures { map_ok ratio result ≡ over_ratio (ratio self) (ratio other) }
     {

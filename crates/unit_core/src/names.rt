@@ -5,23 +5,17 @@ use crate::unit::{NONE, Unit};
 
 const MASS: Dim = Dim { mass: 1, ..NONE };
 
-const DISTANCE: Dim = Dim { length: 1, ..NONE };
+const LENGTH: Dim = Dim { length: 1, ..NONE };
 
 const TIME: Dim = Dim { time: 1, ..NONE };
 
-const FREQUENCY: Dim = Dim { time: -1, ..NONE };
-
 const CURRENT: Dim = Dim { current: 1, ..NONE };
-
-const CHARGE: Dim = Dim {
-    current: 1,
-    time: 1,
-    ..NONE
-};
 
 const MONEY: Dim = Dim { money: 1, ..NONE };
 
 const BITS: Dim = Dim { bits: 1, ..NONE };
+
+const FREQUENCY: Dim = Dim { time: -1, ..NONE };
 
 const FORCE: Dim = Dim {
     mass: 1,
@@ -52,10 +46,16 @@ const VOLTAGE: Dim = Dim {
     ..NONE
 };
 
+const CHARGE: Dim = Dim {
+    current: 1,
+    time: 1,
+    ..NONE
+};
+
 impl Unit {
     ghost use Rattle.std.specs.Option.{option_map};
     ghost use Rattle.unit_core.specs.Measure.{measure};
-    ghost use Rattle.unit_core.specs.UnitTable.{data_units, electric_units, find, length_units, mass_units, mechanical_units, money_units, time_units, unit_named};
+    ghost use Rattle.unit_core.specs.UnitTable.{current_units, data_units, electric_units, find, length_units, mass_units, mechanical_units, money_units, time_units, unit_named};
 
     fn of_mass(name: &str) -> Option<Unit>
         ensures { option_map measure result ≡ find name.now mass_units }
@@ -73,10 +73,10 @@ impl Unit {
         ensures { option_map measure result ≡ find name.now length_units }
     {
         match name {
-            "mm" => Some(Unit::whole(DISTANCE, 1)),
-            "cm" => Some(Unit::whole(DISTANCE, 10)),
-            "m" => Some(Unit::whole(DISTANCE, 1_000)),
-            "km" => Some(Unit::whole(DISTANCE, 1_000_000)),
+            "mm" => Some(Unit::whole(LENGTH, 1)),
+            "cm" => Some(Unit::whole(LENGTH, 10)),
+            "m" => Some(Unit::whole(LENGTH, 1_000)),
+            "km" => Some(Unit::whole(LENGTH, 1_000_000)),
             _ => None,
         }
     }
@@ -90,20 +90,16 @@ impl Unit {
             "min" => Some(Unit::whole(TIME, 60)),
             "h" => Some(Unit::whole(TIME, 3_600)),
             "day" => Some(Unit::whole(TIME, 86_400)),
-            "Hz" => Some(Unit::whole(FREQUENCY, 1)),
             _ => None,
         }
     }
 
-    fn of_electricity(name: &str) -> Option<Unit>
-        ensures { option_map measure result ≡ find name.now electric_units }
+    fn of_current(name: &str) -> Option<Unit>
+        ensures { option_map measure result ≡ find name.now current_units }
     {
         match name {
             "mA" => Some(Unit::whole(CURRENT, 1)),
             "A" => Some(Unit::whole(CURRENT, 1_000)),
-            "mAh" => Some(Unit::whole(CHARGE, 3_600)),
-            "Ah" => Some(Unit::whole(CHARGE, 3_600_000)),
-            "V" => Some(Unit::whole(VOLTAGE, 1_000_000)),
             _ => None,
         }
     }
@@ -136,6 +132,7 @@ impl Unit {
         ensures { option_map measure result ≡ find name.now mechanical_units }
     {
         match name {
+            "Hz" => Some(Unit::whole(FREQUENCY, 1)),
             "N" => Some(Unit::whole(FORCE, 1_000_000)),
             "J" => Some(Unit::whole(ENERGY, 1_000_000_000)),
             "Wh" => Some(Unit::whole(ENERGY, 3_600_000_000_000)),
@@ -147,8 +144,19 @@ impl Unit {
         }
     }
 
+    fn of_electricity(name: &str) -> Option<Unit>
+        ensures { option_map measure result ≡ find name.now electric_units }
+    {
+        match name {
+            "V" => Some(Unit::whole(VOLTAGE, 1_000_000)),
+            "mAh" => Some(Unit::whole(CHARGE, 3_600)),
+            "Ah" => Some(Unit::whole(CHARGE, 3_600_000)),
+            _ => None,
+        }
+    }
+
     /// The unit of that name, or `None` where the table has no such name.
-    #[tactic(auto, unfolding(crate::specs::UnitTable::units))]
+    #[tactic(auto, unfolding(crate::specs::UnitTable::unit_named, crate::specs::UnitTable::units))]
     pub fn of(name: &str) -> Option<Unit>
         ensures { option_map measure result ≡ unit_named name.now }
     {
@@ -161,7 +169,7 @@ impl Unit {
         if let Some(unit) = Unit::of_time(name) {
             return Some(unit);
         }
-        if let Some(unit) = Unit::of_electricity(name) {
+        if let Some(unit) = Unit::of_current(name) {
             return Some(unit);
         }
         if let Some(unit) = Unit::of_money(name) {
@@ -170,6 +178,9 @@ impl Unit {
         if let Some(unit) = Unit::of_data(name) {
             return Some(unit);
         }
-        Unit::of_mechanics(name)
+        if let Some(unit) = Unit::of_mechanics(name) {
+            return Some(unit);
+        }
+        Unit::of_electricity(name)
     }
 }

@@ -1,10 +1,11 @@
 ghost use Rattle.std.specs.Prelude.{◌≡◌, ◌<◌, ◌≤◌, ◌↔◌, IsTrue};
+ghost use Rattle.unit_core.specs.Range.{greatest_part};
 
 use crate::dim::Dim;
 use crate::fault::UnitFault;
 use crate::fraction::Fraction;
 
-pub const NONE: Dim = Dim {
+pub(crate) const NONE: Dim = Dim {
     mass: 0,
     length: 0,
     time: 0,
@@ -26,6 +27,7 @@ impl Unit {
     ghost use Rattle.unit_core.specs.Results.{map_ok};
 
     /// The product.
+    #[tactic(auto, unfolding(crate::specs::Measure::times_measure))]
     pub fn times(self, other: Unit) -> Result<Unit, UnitFault>
         ensures { map_ok measure result ≡ times_measure (measure self) (measure other) }
     {
@@ -40,6 +42,7 @@ impl Unit {
     }
 
     /// The quotient.
+    #[tactic(auto, unfolding(crate::specs::Measure::over_measure))]
     pub fn over(self, other: Unit) -> Result<Unit, UnitFault>
         ensures { map_ok measure result ≡ over_measure (measure self) (measure other) }
     {
@@ -54,9 +57,9 @@ impl Unit {
     }
 
     /// The unit of that size.
-    pub fn whole(dim: Dim, size: u64) -> Unit
+    pub(crate) fn whole(dim: Dim, size: u64) -> Unit
         requires positive { 0 < size }
-        requires in_range { size ≤ 10000000000000000000 }
+        requires in_range { size ≤ greatest_part }
         ensures { measure result ≡ record { dim = dim; size = record { num = size; den = 1 } } }
     {
         let size = Fraction { num: size, den: 1 };
@@ -64,9 +67,9 @@ impl Unit {
     }
 
     /// The unit of the size 1/den.
-    pub fn part(dim: Dim, den: u64) -> Unit
+    pub(crate) fn part(dim: Dim, den: u64) -> Unit
         requires positive { 0 < den }
-        requires in_range { den ≤ 10000000000000000000 }
+        requires in_range { den ≤ greatest_part }
         ensures { measure result ≡ record { dim = dim; size = record { num = 1; den = den } } }
     {
         let size = Fraction { num: 1, den };
@@ -110,6 +113,7 @@ impl Unit {
     /// 1 multiplied by the unit `n` times, or divided by it `-n` times.
     ///
     /// A unit other than 1 meets a fault within 64 steps, so it's quick for every `n`.
+    #[tactic(auto, unfolding(crate::specs::Measure::power_measure))]
     pub fn power(self, n: i32) -> Result<Unit, UnitFault>
         ensures { map_ok measure result ≡ power_measure (measure self) n }
     {

@@ -4,5 +4,8 @@ pub mod KindBounds
 pub mod KindLaws
 pub mod KindOrder
 pub mod Leq
+pub mod PortKinds
+pub mod Ports
 pub mod PrintLaws
 pub mod PrintOrder
+pub mod Scale

@@ -1,7 +1,8 @@
 -- The order in which values and rows are printed.
-use Rattle.std.specs.Prelude.{ℕ, List}
+use Rattle.std.specs.Prelude.{ℕ, Bool, true, ◌&&◌, List, [], ◌∷◌}
 use Rattle.std.specs.Cmp.Lexicographic.{slice_cmp}
-use Rattle.std.specs.Ordering.{nat_cmp}
+use Rattle.std.specs.List.{list_all}
+use Rattle.std.specs.Ordering.{is_lt, nat_cmp}
 use Rattle.std.specs.declared.cmp.Ordering.{Ordering}
 use Rattle.value_type.specs.declared.value.Value.{Value, out-Value}
 use Rattle.value_type.specs.declared.value.Value.TheFolds.{fold-Value}
@@ -31,3 +32,12 @@ value_cmp = fold-Value (Value → Ordering) (λ x v. cmp_step x (out-Value v))
 -- Rows compare value by value from the left, one that another begins with before it.
 abbrev pub row_cmp : List Value → List Value → Ordering
 row_cmp a b = slice_cmp value_cmp a b
+
+-- the first row is printed before the second
+abbrev pub is_before : List Value → List Value → Bool
+is_before a b = is_lt (row_cmp a b)
+
+-- Each row is printed before all that follow it, so none comes twice.
+abbrev pub are_rising : List (List Value) → Bool
+are_rising [] = true
+are_rising (row ∷ rows) = list_all (is_before row) rows && are_rising rows

@@ -1,5 +1,6 @@
 ghost use Rattle.std.specs.Prelude.{◌≡◌, IfOk};
 
+use crate::kind::Kind;
 use crate::value::Value;
 use order_core::{List, NoMemory};
 use std::alloc::Global;
@@ -29,6 +30,34 @@ pub fn copy_values(alloc: Global, values: &[Value]) -> Result<Vec<Value>, NoMemo
     let mut made = Vec::new(alloc);
     for value in values {
         let copy = copy_value(alloc, value)?;
+        if made.push(copy).is_err() {
+            return Err(NoMemory);
+        }
+    }
+    Ok(made)
+}
+
+/// A type equal to this one.
+#[cycle(copy_kind)]
+pub fn copy_kind(alloc: Global, kind: &Kind) -> Result<Kind, NoMemory>
+    ensures { IfOk result (λ made. made ≡ kind.now) }
+{
+    match kind {
+        Kind::Num(dim) => Ok(Kind::Num(*dim)),
+        Kind::Fin(k) => Ok(Kind::Fin(*k)),
+        Kind::Prod(parts) => Ok(Kind::Prod(List::of(copy_kinds(alloc, parts.items())?))),
+        Kind::Up(k) => Ok(Kind::Up(*k)),
+    }
+}
+
+/// Types equal to these, in order.
+#[cycle(copy_kind)]
+fn copy_kinds(alloc: Global, kinds: &[Kind]) -> Result<Vec<Kind>, NoMemory>
+    ensures { IfOk result (λ made. made.items ≡ kinds.now) }
+{
+    let mut made = Vec::new(alloc);
+    for kind in kinds {
+        let copy = copy_kind(alloc, kind)?;
         if made.push(copy).is_err() {
             return Err(NoMemory);
         }

@@ -1,6 +1,6 @@
-ghost use Rattle.std.specs.Prelude.{true};
+ghost use Rattle.std.specs.Prelude.{◌≡◌, true, IfOk};
 
-use crate::copy::copy_value;
+use crate::copy::{copy_kind, copy_value};
 use crate::value::Value;
 use order_core::{Copier, List, NoMemory};
 use std::alloc::Global;
@@ -17,6 +17,15 @@ pub enum Kind {
     Prod(List<Kind>),
     /// The upper sets of the poset of this number.
     Up(u32),
+}
+
+impl Kind {
+    /// A type equal to this one.
+    pub fn copy(&self, alloc: Global) -> Result<Kind, NoMemory>
+        ensures { IfOk result (λ made. made ≡ self.now) }
+    {
+        copy_kind(alloc, self)
+    }
 }
 
 impl Copier for Kind {

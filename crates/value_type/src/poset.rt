@@ -1,3 +1,9 @@
+ghost use Rattle.std.specs.Prelude.{◌≡◌, IsTrue};
+
+use crate::fits::fits;
+use crate::kind::Kind;
+use crate::leq::leq;
+use crate::value::Value;
 use order_core::{FiniteOrder, List, Text};
 
 /// A finite poset with the names of its elements.
@@ -9,8 +15,29 @@ pub struct Poset {
     pub order: FiniteOrder,
 }
 
-/// The posets that types speak of.
+/// The posets that types speak of, by number.
 #[derive(Drop)]
 pub struct Types {
     pub posets: List<Poset>,
+}
+
+impl Types {
+    ghost use Rattle.value_type.specs.Fits.{fits};
+    ghost use Rattle.value_type.specs.Leq.{leq};
+
+    /// Whether the value is one of this type. A type that names no poset has none.
+    pub fn fits(&self, kind: &Kind, value: &Value) -> bool
+        ensures { result ≡ fits self.now kind.now value.now }
+    {
+        fits(self, kind, value)
+    }
+
+    /// Whether `a` is at most `b`, both values of this type.
+    pub fn leq(&self, kind: &Kind, a: &Value, b: &Value) -> bool
+        requires a_fits { IsTrue (fits self.now kind.now a.now) }
+        requires b_fits { IsTrue (fits self.now kind.now b.now) }
+        ensures { result ≡ leq self.now kind.now a.now b.now }
+    {
+        leq(self, kind, a, b)
+    }
 }

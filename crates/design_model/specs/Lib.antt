@@ -1,0 +1,4 @@
+pub mod Feasible
+pub mod Fitting
+pub mod Holds
+pub mod Parts

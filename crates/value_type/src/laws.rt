@@ -1,0 +1,25 @@
+//! What holds of the definitions.
+
+ghost use Rattle.std.specs.Prelude.{◌≡◌, List};
+ghost use Rattle.std.specs.Cmp.{IsTotalOrder};
+ghost use Rattle.std.specs.declared.cmp.Ordering.TheVariants.{Equal};
+ghost use Rattle.order_core.specs.Order.{IsOrder};
+ghost use Rattle.value_type.specs.declared.kind.Kind.{Kind};
+ghost use Rattle.value_type.specs.declared.poset.Types.{Types};
+ghost use Rattle.value_type.specs.declared.value.Value.{Value};
+ghost use Rattle.value_type.specs.Fits.{fits};
+ghost use Rattle.value_type.specs.Leq.{leq};
+ghost use Rattle.value_type.specs.PrintOrder.{value_cmp, row_cmp};
+
+/// On the values of each type, `leq` is reflexive, transitive and antisymmetric.
+pub fn values_are_in_order()
+    ensures { (t : Types) (k : Kind) → IsOrder (fits t k) (leq t k) }
+{}
+
+/// The print orders are total, and only a value or row itself compares as equal to it.
+pub fn print_orders_are_total()
+    ensures values { IsTotalOrder value_cmp }
+    ensures same_value { (v w : Value) → value_cmp v w ≡ Equal → v ≡ w }
+    ensures rows { IsTotalOrder row_cmp }
+    ensures same_row { (v w : List Value) → row_cmp v w ≡ Equal → v ≡ w }
+{}

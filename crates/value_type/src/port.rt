@@ -1,0 +1,76 @@
+ghost use Rattle.std.specs.Prelude.{◌≡◌, IfOk, IsTrue};
+ghost use Rattle.value_type.specs.Fits.{row_fits};
+ghost use Rattle.value_type.specs.PortKinds.{port_kinds};
+ghost use Rattle.value_type.specs.Leq.{row_leq};
+
+use crate::kind::Kind;
+use crate::poset::Types;
+use crate::value::Value;
+use order_core::{List, NoMemory, Text};
+use std::alloc::Global;
+
+/// How a port's values are written and printed.
+#[derive(Debug, Drop)]
+pub enum PortUnit {
+    /// Plain numbers.
+    Nat,
+    /// Numbers of units: the unit as it is written, and how many grid counts one of it is.
+    Unit { text: Text, size: u64 },
+    /// Elements or upper sets of a poset.
+    Poset,
+    /// Tuples, with one of these for each part.
+    Parts(List<PortUnit>),
+}
+
+/// A port of a design: what it provides or requires.
+///
+/// It is whole where its unit has the form of its type.
+#[derive(Debug, Drop)]
+pub struct Port {
+    pub name: Text,
+    pub kind: Kind,
+    pub unit: PortUnit,
+}
+
+/// The types of the ports, in order.
+pub fn kinds_of(alloc: Global, ports: &[Port]) -> Result<List<Kind>, NoMemory>
+    ensures { IfOk result (λ kinds. kinds ≡ port_kinds ports.now) }
+{
+    let mut kinds = Vec::new(alloc);
+    for port in ports {
+        let kind = port.kind.copy(alloc)?;
+        if kinds.push(kind).is_err() {
+            return Err(NoMemory);
+        }
+    }
+    Ok(List::of(kinds))
+}
+
+/// Whether there is one value for each port, and is one of its type.
+pub fn ports_fit(types: &Types, ports: &[Port], values: &[Value]) -> bool
+    ensures { result ≡ row_fits types.now (port_kinds ports.now) values.now }
+{
+    if ports.len() != values.len() {
+        return false;
+    }
+    for (at, port) in ports.iter().enumerate() {
+        if !types.fits(&port.kind, &values[at]) {
+            return false;
+        }
+    }
+    true
+}
+
+/// Whether each of the first values is at most its partner.
+pub fn ports_leq(types: &Types, ports: &[Port], xs: &[Value], ys: &[Value]) -> bool
+    requires xs_fit { IsTrue (row_fits types.now (port_kinds ports.now) xs.now) }
+    requires ys_fit { IsTrue (row_fits types.now (port_kinds ports.now) ys.now) }
+    ensures { result ≡ row_leq types.now (port_kinds ports.now) xs.now ys.now }
+{
+    for (at, port) in ports.iter().enumerate() {
+        if !types.leq(&port.kind, &xs[at], &ys[at]) {
+            return false;
+        }
+    }
+    true
+}
