@@ -1,7 +1,7 @@
 ghost use Rattle.std.specs.Prelude.{◌≡◌, ◌+ℤ◌, ◌-ℤ◌, MatchOption, cond, false, true};
 ghost use Rattle.unit_core.specs.Dimension.{are_exponents, dim_over, dim_times, is_exponent};
 
-/// The exponents of mass, length, time, current, money and bits.
+/// A dimension: the exponents of mass, length, time, current, money and bits.
 #[derive(Clone, Copy, Debug, PartialEq, Eq)]
 pub struct Dim {
     pub mass: i8,

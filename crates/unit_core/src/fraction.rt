@@ -26,7 +26,9 @@ impl Fraction {
     ghost use Rattle.unit_core.specs.Results.{map_ok};
     ghost use Rattle.unit_core.specs.Rounding.{ceiling, floor, IsRoundedUp, IsRoundedDown};
 
-    /// The fraction num/den.
+    /// The fraction num/den in lowest terms.
+    ///
+    /// `Zero` where `den` is zero, otherwise `Range` where a part of it is above `MAX_PART`.
     #[tactic(auto, unfolding(crate::specs::Ratio::quotient))]
     pub fn new(num: u128, den: u128) -> Result<Fraction, FractionFault>
         ensures { map_ok ratio result ≡ quotient num den }
@@ -49,7 +51,7 @@ impl Fraction {
         })
     }
 
-    /// The product.
+    /// The product, or `Range` where a part of it in lowest terms is above `MAX_PART`.
     #[tactic(auto, unfolding(crate::specs::Ratio::times_ratio))]
     pub fn times(self, other: Fraction) -> Result<Fraction, FractionFault>
         ensures { map_ok ratio result ≡ times_ratio (ratio self) (ratio other) }
@@ -61,6 +63,8 @@ impl Fraction {
     }
 
     /// The quotient.
+    ///
+    /// `Zero` where the divisor is zero, otherwise `Range` where a part in lowest terms is above `MAX_PART`.
     #[tactic(auto, unfolding(crate::specs::Ratio::over_ratio))]
     pub fn over(self, other: Fraction) -> Result<Fraction, FractionFault>
         ensures { map_ok ratio result ≡ over_ratio (ratio self) (ratio other) }

@@ -27,6 +27,8 @@ impl Unit {
     ghost use Rattle.unit_core.specs.Results.{map_ok};
 
     /// The product.
+    ///
+    /// `Exponent` where an exponent is below -9 or above 9, otherwise `Range` where the size is no fraction in range.
     #[tactic(auto, unfolding(crate::specs::Measure::times_measure))]
     pub fn times(self, other: Unit) -> Result<Unit, UnitFault>
         ensures { map_ok measure result ≡ times_measure (measure self) (measure other) }
@@ -41,7 +43,7 @@ impl Unit {
         }
     }
 
-    /// The quotient.
+    /// The quotient, with the faults of a product.
     #[tactic(auto, unfolding(crate::specs::Measure::over_measure))]
     pub fn over(self, other: Unit) -> Result<Unit, UnitFault>
         ensures { map_ok measure result ≡ over_measure (measure self) (measure other) }
@@ -87,7 +89,7 @@ impl Unit {
         ensures { map_ok measure result ≡ steps (λ v. times_measure v (measure self)) count one }
     {
         let mut made = Unit::whole(NONE, 1);
-        for at in 0..count {
+        for _step in 0..count {
             match made.times(self) {
                 Ok(next) => made = next,
                 Err(fault) => return Err(fault),
@@ -101,7 +103,7 @@ impl Unit {
         ensures { map_ok measure result ≡ steps (λ v. over_measure v (measure self)) count one }
     {
         let mut made = Unit::whole(NONE, 1);
-        for at in 0..count {
+        for _step in 0..count {
             match made.over(self) {
                 Ok(next) => made = next,
                 Err(fault) => return Err(fault),
@@ -112,7 +114,8 @@ impl Unit {
 
     /// 1 multiplied by the unit `n` times, or divided by it `-n` times.
     ///
-    /// A unit other than 1 meets a fault within 64 steps, so it's quick for every `n`.
+    /// The first step that breaks a rule of products names the fault. A unit other than 1 breaks one within
+    /// 64 steps, so it's quick for every `n`.
     #[tactic(auto, unfolding(crate::specs::Measure::power_measure))]
     pub fn power(self, n: i32) -> Result<Unit, UnitFault>
         ensures { map_ok measure result ≡ power_measure (measure self) n }

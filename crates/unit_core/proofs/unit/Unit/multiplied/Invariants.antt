@@ -3,6 +3,6 @@ use Rattle.unit_core.specs.Measure.{measure, one, steps, times_measure}
 use Rattle.unit_core.proofs.unit.Unit.multiplied.Given as goal
 
 -- The steps that are left lead from here to the same.
-abbrev pub invariant-loop-at : goal.invariant-loop-at
-invariant-loop-at l =
-    steps (λ v. times_measure v (measure l.self)) l.count one ≡ steps (λ v. times_measure v (measure l.self)) (l.count - l.at) (measure l.made)
+abbrev pub invariant-loop-step : goal.invariant-loop-step
+invariant-loop-step l =
+    steps (λ v. times_measure v (measure l.self)) l.count one ≡ steps (λ v. times_measure v (measure l.self)) (l.count - l._step) (measure l.made)

@@ -1,0 +1,14 @@
+pub mod CellLaws
+pub mod CellLengths
+pub mod Counts
+pub mod Cuts
+pub mod Digits
+pub mod Distinct
+pub mod NameTexts
+pub mod ListLemmas
+pub mod TextLaws
+pub mod Gives
+pub mod Numbers
+pub mod UnitNames
+pub mod RowLaws
+pub mod CatalogueLaws

@@ -1,0 +1,32 @@
+-- Parts of texts.
+use Rattle.std.specs.Prelude.{◌≡◌, ◌-◌, ◌==◌, ℕ, IsTrue, cond, List, [], ◌∷◌, Option, Some, None, length, take, drop}
+use Rattle.std.specs.Option.{option_map}
+use Rattle.std.specs.Str.{bytes_eq}
+use Rattle.std.proofs.Common.{refl, eqb-true, eq-eqb}
+use Rattle.order_core.specs.Members.{first, second, both}
+
+-- what stands after the text, where the bytes begin with it
+abbrev pub after_text : List ℕ → List ℕ → Option (List ℕ)
+after_text text bytes = cond (bytes_eq (take (length text) bytes) text) (Some (drop (length text) bytes)) None
+
+-- what stands before the text, where the bytes end with it
+abbrev pub before_text : List ℕ → List ℕ → Option (List ℕ)
+before_text text bytes = cond (bytes_eq (drop (length bytes - length text) bytes) text) (Some (take (length bytes - length text) bytes)) None
+
+-- what stands before and after the first such byte
+abbrev pub cut_at : ℕ → List ℕ → Option (List ℕ × List ℕ)
+cut_at byte [] = None
+cut_at byte (x ∷ xs) = cond (x == byte) (Some ([], xs)) (option_map (λ parts. (x ∷ parts.0, parts.1)) (cut_at byte xs))
+
+-- Two texts are the same where their bytes are.
+pub same_bytes : (xs ys : List ℕ) → IsTrue (bytes_eq xs ys) → xs ≡ ys
+same_bytes [] [] h = refl
+same_bytes [] (y ∷ ys) h = absurd (cc)
+same_bytes (x ∷ xs) [] h = absurd (cc)
+same_bytes (x ∷ xs) (y ∷ ys) h =
+    let heads : x ≡ y = eqb-true x y (first _ _ h) in
+    let tails : xs ≡ ys = same_bytes xs ys (second (x == y) _ h) in cc
+
+pub bytes_same : (xs : List ℕ) → IsTrue (bytes_eq xs xs)
+bytes_same [] = refl
+bytes_same (x ∷ xs) = both _ _ (eq-eqb x x refl) (bytes_same xs)
