@@ -46,13 +46,20 @@ impl Design {
         }
     }
 
+    /// The rows, if the design is a catalogue.
+    pub fn rows(&self) -> &[CatRow]
+        ensures { result.now ≡ rows_of self.now }
+    {
+        match self {
+            Design::Cat { rows, .. } => rows.items(),
+        }
+    }
+
     /// The row of this number, if the design is a catalogue that has it.
     pub fn row(&self, number: u32) -> Option<&CatRow>
         ensures { option_copied result ≡ slice_get (rows_of self.now) number }
     {
-        match self {
-            Design::Cat { rows, .. } => rows.get(number as usize),
-        }
+        self.rows().get(number as usize)
     }
 }
 

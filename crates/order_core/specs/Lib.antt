@@ -2,6 +2,7 @@ pub mod Closing
 pub mod Descent
 pub mod Embedding
 pub mod Finite
+pub mod formers
 pub mod Incomparable
 pub mod Members
 pub mod Minimal
@@ -12,7 +13,9 @@ pub mod Num
 pub mod NumLaws
 pub mod Order
 pub mod Partners
+pub mod Permuted
 pub mod Products
+pub mod TotalOrders
 pub mod Tuple
 pub mod Upper
 pub mod UpperLaws
@@ -20,4 +23,3 @@ pub mod Walk
 pub mod WalkLaws
 pub mod Word
 pub mod WordLaws
-pub mod formers

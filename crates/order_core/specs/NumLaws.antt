@@ -1,5 +1,5 @@
 -- What is made of numbers is a number, and is the greater the greater they are.
-use Rattle.std.specs.Prelude.{◌≡◌, ◌≤◌, ◌+◌, ◌*◌, ℕ, Bool, true, false, cond, nat_le, nat_eq, min, max, IsTrue}
+use Rattle.std.specs.Prelude.{◌≡◌, ◌≤◌, ◌+◌, ◌*◌, ℕ, Bool, true, false, cond, nat_le, nat_eq, IsTrue}
 use Rattle.std.proofs.Common.{refl, ap, subst, ◌∙◌, arith}
 use Rattle.std.proofs.Math.Nat.{mul-le-mul, mul_comm, zero-mul}
 use Rattle.std.proofs.lemmas.Bool.{cond-true, leb-true, eqb-true}

@@ -104,11 +104,7 @@ fn count_or_top(n: u64) -> Num
 fn top_times(n: u64) -> Num
     ensures { result ≡ number_product Num.Top (Num.Count n) }
 {
-    if n == 0 {
-        Num::Count(0)
-    } else {
-        Num::Top
-    }
+    if n == 0 { Num::Count(0) } else { Num::Top }
 }
 
 /// Numbers by size.

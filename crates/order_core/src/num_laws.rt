@@ -15,8 +15,7 @@ pub fn numbers_make_numbers()
     ensures lesser { (x y : Num) → IsTrue (is_number x) → IsTrue (is_number y) → IsTrue (is_number (lesser_of x y)) }
     ensures sum { (x y : Num) → IsTrue (is_number (number_sum x y)) }
     ensures product { (x y : Num) → IsTrue (is_number (number_product x y)) }
-{
-}
+{}
 
 /// The greater and the lesser of two numbers, their sum and their product are the greater the greater both are.
 pub fn number_operations_are_monotone()
@@ -24,8 +23,7 @@ pub fn number_operations_are_monotone()
     ensures lesser { (x y z w : Num) → IsTrue (number_leq x z) → IsTrue (number_leq y w) → IsTrue (number_leq (lesser_of x y) (lesser_of z w)) }
     ensures sum { (x y z w : Num) → IsTrue (number_leq x z) → IsTrue (number_leq y w) → IsTrue (number_leq (number_sum x y) (number_sum z w)) }
     ensures product { (x y z w : Num) → IsTrue (number_leq x z) → IsTrue (number_leq y w) → IsTrue (number_leq (number_product x y) (number_product z w)) }
-{
-}
+{}
 
 /// Sums and products don't depend on the order, and zero and one leave the other number as it is.
 pub fn number_operations_are_commutative()
@@ -33,5 +31,4 @@ pub fn number_operations_are_commutative()
     ensures zero { (x : Num) → IsTrue (is_number x) → number_sum (Num.Count 0) x ≡ x }
     ensures product { (x y : Num) → number_product x y ≡ number_product y x }
     ensures one { (x : Num) → IsTrue (is_number x) → number_product (Num.Count 1) x ≡ x }
-{
-}
+{}

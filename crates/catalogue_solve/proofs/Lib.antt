@@ -1,0 +1,3 @@
+pub mod MinimaLaws
+pub mod MinimaOf
+pub mod Rising
