@@ -72,14 +72,17 @@ def expect(is_so, what):
         sys.exit(f"bench: {what}")
 
 
-def main():
-    sizes = [int(word) for word in sys.argv[1:]] or SIZES
-    # The program is built before anything is measured.
+def build():
+    """Has the program built, before anything is measured."""
     done = subprocess.run([MCDPL, "solve", os.path.join(TOP, "examples", "motors"), "motors", "90"],
                           stdin=subprocess.DEVNULL, stdout=subprocess.PIPE, check=False)
     expect(done.returncode == 0, "the program doesn't run on examples/motors")
     expect(done.stdout == b"finished 2\n8, 7\n10, 5\n", "the report on examples/motors is wrong")
 
+
+def main():
+    sizes = [int(word) for word in sys.argv[1:]] or SIZES
+    build()
     print(f"{'rows':>7} {'minimal':>8} {'file':>9} {'seconds':>8} {'peak':>9}")
     for size in sizes:
         rows, minimal = rows_of(size)

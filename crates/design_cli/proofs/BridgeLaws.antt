@@ -9,18 +9,18 @@ use Rattle.design_world.specs.declared.world.Content.{Content}
 use Rattle.design_world.specs.declared.world.Content.TheVariants.{Whole, Longer}
 use Rattle.design_world.specs.Files.{File, GivesContent, GivesFile, first_named, names_of}
 use Rattle.order_core.specs.Members.{IsMember, first, second, all_elim, mem-map, map-mem, mem-filter, filter-mem, mem-right, mem-split}
-use Rattle.design_cli.specs.declared.library.Design.{Design}
+use Rattle.design_cli.specs.declared.library.NamedDesign.{NamedDesign}
 use Rattle.design_cli.specs.declared.library.FileRead.{FileRead}
 use Rattle.design_cli.specs.ByteOrder.{is_before}
 use Rattle.design_cli.specs.Judged.{AllWrite, DiffersFromNext, FirstWritesNone, Writes, WritesCatalogue, WritesDesign}
 use Rattle.design_cli.specs.Library.{AreAccepted, IsAccepted, IsDesign, IsFirstRefused, design_extension, times_named}
 use Rattle.design_cli.specs.Listing.{AreListed, AreRead}
-use Rattle.design_cli.specs.Names.{is_name, is_recognised}
-use Rattle.design_cli.specs.Texts.{before_text}
+use Rattle.plain_form.specs.Names.{is_name, is_recognised}
+use Rattle.plain_form.specs.Texts.{before_text}
 use Rattle.design_cli.proofs.FoundLaws.{found_written, written_whole}
 use Rattle.design_cli.proofs.NameCounts.{times, in_order, sorted_order, ahead_of_all, stands_once, stands_twice, times_listed, never_itself}
-use Rattle.design_cli.proofs.Permuted.{members_permuted, members_before, member_from_all}
-use Rattle.design_cli.proofs.TextLaws.{before_append, before_some, same_bytes, bytes_same}
+use Rattle.order_core.specs.Permuted.{members_permuted, members_before, member_from_all}
+use Rattle.plain_form.specs.Texts.{before_append, before_some, same_bytes, bytes_same}
 
 -- how many files have the name, by their names
 named_times : (name : List ℕ) (files : List File) → times_named files name ≡ times name (names_of files)
@@ -77,7 +77,7 @@ module _ (files : List File) (reads : List FileRead) (listed : AreListed files (
       subst (λ (o : Option File). GivesFile o 1048576 read.content) found (member_from_all (λ (read : FileRead). GivesContent files read.name 1048576 read.content) reads read contents m)
 
   -- What writes a design and stands once is accepted.
-  accepted_of : (read : FileRead) (design : Design) (file : File) → IsMember read reads → WritesDesign read design → IsMember file files → file.name ≡ read.name
+  accepted_of : (read : FileRead) (design : NamedDesign) (file : File) → IsMember read reads → WritesDesign read design → IsMember file files → file.name ≡ read.name
       → IsTrue (is_recognised read.name) → times read.name names ≡ 1 → IsAccepted files file
   accepted_of read design file m w k e r one =
       let once : times_named files read.name ≡ 1 = times_of read.name r ∙ one in
@@ -88,15 +88,15 @@ module _ (files : List File) (reads : List FileRead) (listed : AreListed files (
         once = ap (times_named files) e ∙ once;
         short = g.0;
         design = ap (λ o. option_map_or is_name o false) cut ∙ w.is_name;
-        plain = (design.catalogue, rw (← g.1) whole.2);
+        plain = (design.design, rw (← g.1) whole.2);
       }
 
   -- What is accepted writes a design.
-  writes_of : (read : FileRead) (file : File) → IsMember read reads → IsMember file files → file.name ≡ read.name → IsAccepted files file → (design : Design) × WritesDesign read design
+  writes_of : (read : FileRead) (file : File) → IsMember read reads → IsMember file files → file.name ≡ read.name → IsAccepted files file → (design : NamedDesign) × WritesDesign read design
   writes_of read file m k e a =
       let g = gives read file m k e (ap (times_named files) (sym e) ∙ a.once) in
       let n = named (before_text design_extension file.name) refl a.design in (
-        record { name = n.0; catalogue = a.plain.0 },
+        record { name = n.0; design = a.plain.0 },
         record { named = sym e ∙ n.1; is_name = n.2; content = content read.content n.0 g },
       )
     where
@@ -104,7 +104,7 @@ module _ (files : List File) (reads : List FileRead) (listed : AreListed files (
       named None f h = absurd (cc)
       named (Some name) f h = (name, before_some design_extension file.name name f, h)
 
-      content : (c : Content) (name : List ℕ) → GivesFile (Some file) 1048576 c → WritesCatalogue c (record { name = name; catalogue = a.plain.0 })
+      content : (c : Content) (name : List ℕ) → GivesFile (Some file) 1048576 c → WritesCatalogue c (record { name = name; design = a.plain.0 })
       content (Whole bytes) name g = rw g.1 a.plain.1
       content Longer name g = absurd (let s = a.short in omega arith)
 
@@ -150,7 +150,7 @@ module _ (files : List File) (reads : List FileRead) (listed : AreListed files (
       (one_more (map (λ read. read.name) front) read.name (map (λ read. read.name) rest) a b)
 
   -- Where each file writes its design, each name stands once.
-  all_once : (front rest : List FileRead) (designs : List Design) → reads ≡ front ++ rest → Ahead (map (λ read. read.name) front) (map (λ read. read.name) rest) → IsTrue (in_order (map (λ read. read.name) rest))
+  all_once : (front rest : List FileRead) (designs : List NamedDesign) → reads ≡ front ++ rest → Ahead (map (λ read. read.name) front) (map (λ read. read.name) rest) → IsTrue (in_order (map (λ read. read.name) rest))
       → AllWrite rest designs → (read : FileRead) → IsMember read rest → times read.name names ≡ 1
   all_once front [] designs is a o w read m = absurd m
   all_once front (r ∷ rest) [] is a o w read m = absurd w
@@ -166,7 +166,7 @@ module _ (files : List File) (reads : List FileRead) (listed : AreListed files (
   order : IsTrue (in_order names)
   order = sorted_order names sorted
 
-  writer : (rest : List FileRead) (designs : List Design) → AllWrite rest designs → (read : FileRead) → IsMember read rest → (design : Design) × IsMember design designs × WritesDesign read design
+  writer : (rest : List FileRead) (designs : List NamedDesign) → AllWrite rest designs → (read : FileRead) → IsMember read rest → (design : NamedDesign) × IsMember design designs × WritesDesign read design
   writer [] designs w read m = absurd m
   writer (r ∷ rest) [] w read m = absurd w
   writer (r ∷ rest) (d ∷ designs) w read (inl e) = (d, inl refl, subst (λ (x : FileRead). WritesDesign x d) (sym e) w.0.alone)
@@ -176,7 +176,7 @@ module _ (files : List File) (reads : List FileRead) (listed : AreListed files (
   read_of : (file : File) → IsMember file files → IsTrue (is_recognised file.name) → (read : FileRead) × IsMember read reads × (file.name ≡ read.name)
   read_of file m r = mem-map (λ (read : FileRead). read.name) reads file.name (named_of file m r)
 
-  pub accepts : (designs : List Design) → AllWrite reads designs → AreAccepted files
+  pub accepts : (designs : List NamedDesign) → AllWrite reads designs → AreAccepted files
   accepts designs w file m r =
       let k = read_of file m r in
       let d = writer reads designs w k.0 k.1 in
@@ -184,7 +184,7 @@ module _ (files : List File) (reads : List FileRead) (listed : AreListed files (
 
   refuses_here : (front : List FileRead) (r : FileRead) (rest : List FileRead) → reads ≡ front ++ r ∷ rest → IsTrue (in_order (map (λ read. read.name) (r ∷ rest)))
       → ((file : File) → IsMember file files → IsTrue (is_recognised file.name) → IsMember file.name (map (λ read. read.name) front) → IsAccepted files file)
-      → ((design : Design) → Writes r rest design → ⊥) → IsFirstRefused files r.name
+      → ((design : NamedDesign) → Writes r rest design → ⊥) → IsFirstRefused files r.name
   refuses_here front r rest is o fine bad =
       let m = read_in front r rest is in
       let f = file_of r.name (map-mem (λ read. read.name) reads r m) in
@@ -247,7 +247,7 @@ module _ (files : List File) (reads : List FileRead) (listed : AreListed files (
 
   -- ---- the design that is asked for
 
-  pub design_found : (designs : List Design) (design : Design) (name : List ℕ) → AllWrite reads designs → find (λ design. bytes_eq design.name name) designs ≡ Some design → IsDesign files name design.catalogue
+  pub design_found : (designs : List NamedDesign) (design : NamedDesign) (name : List ℕ) → AllWrite reads designs → find (λ design. bytes_eq design.name name) designs ≡ Some design → IsDesign files name design.design
   design_found designs design name w e =
       let r = found_written (λ design. bytes_eq design.name name) reads designs design w e in
       let f = file_of r.0.name (map-mem (λ (read : FileRead). read.name) reads r.0 r.1) in
@@ -271,7 +271,7 @@ module _ (files : List File) (reads : List FileRead) (listed : AreListed files (
       go false e k (inl f) ih = let yes : p y ≡ true = sym (ap p f) ∙ t in cc
       go false e k (inr n) ih = ih k n t
 
-  pub design_missing : (designs : List Design) (name : List ℕ) → AllWrite reads designs → find (λ design. bytes_eq design.name name) designs ≡ None
+  pub design_missing : (designs : List NamedDesign) (name : List ℕ) → AllWrite reads designs → find (λ design. bytes_eq design.name name) designs ≡ None
       → (file : File) → IsMember file files → IsTrue (is_recognised file.name) → file.name ≡ name ++ design_extension → ⊥
   design_missing designs name w e file m r named =
       let k = read_of file m r in

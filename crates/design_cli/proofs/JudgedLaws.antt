@@ -2,7 +2,7 @@
 use Rattle.std.proofs.Common.{◌≡◌, ◌∙◌, refl, sym, ap, subst, ℕ, ◌+◌, ◌<◌, ◌≤◌, List, [], ◌∷◌, ◌++◌, length, get_or, drop, append-nil, inl, Some, find, slice_get, cond, true, Bool}
 use Rattle.std.proofs.lemmas.List.{drop_more, drop_all}
 use Rattle.std.proofs.lemmas.Option.{slice_get-get_or}
-use Rattle.design_cli.specs.declared.library.Design.{Design}
+use Rattle.design_cli.specs.declared.library.NamedDesign.{NamedDesign}
 use Rattle.design_cli.specs.declared.library.FileRead.{FileRead}
 use Rattle.design_cli.specs.declared.library.LibraryError.{LibraryError}
 use Rattle.design_cli.specs.declared.library.LibraryError.TheVariants.{Refused, Memory}
@@ -14,13 +14,13 @@ module _ (files : List FileRead) (i : ℕ) (file : FileRead) (inside : i < lengt
   front = rw (drop_more files i file inside, ← is) refl
 
   -- The file that stands next writes no design.
-  pub refused_here : (e : LibraryError) → IsRefusalOf file e → ((design : Design) → WritesDesign file design → ⊥) → IsRefusal files e
+  pub refused_here : (e : LibraryError) → IsRefusalOf file e → ((design : NamedDesign) → WritesDesign file design → ⊥) → IsRefusal files e
   refused_here (Refused name) named none = left name (rw front (inl (named, λ design w. none design w.alone)))
   refused_here Memory named none = tt
 
 -- With no file left, each file writes its design.
-pub all_written : (files : List FileRead) (designs : List Design) (i : ℕ) → length files ≤ i → ((more : List Design) → AllWrite (drop i files) more → AllWrite files (designs ++ more)) → AllWrite files designs
-all_written files designs i end h = subst (λ (ds : List Design). AllWrite files ds) (append-nil designs) (h [] (rw (drop_all i files end) tt))
+pub all_written : (files : List FileRead) (designs : List NamedDesign) (i : ℕ) → length files ≤ i → ((more : List NamedDesign) → AllWrite (drop i files) more → AllWrite files (designs ++ more)) → AllWrite files designs
+all_written files designs i end h = subst (λ (ds : List NamedDesign). AllWrite files ds) (append-nil designs) (h [] (rw (drop_all i files end) tt))
 
 -- The first element that passes stands where all before it don't.
 pub found_here : {A : Type 0} (p : A → Bool) (xs : List A) (i : ℕ) (x : A) → i < length xs → x ≡ get_or xs i x → p x ≡ true → find p xs ≡ find p (drop i xs) → find p xs ≡ slice_get xs i

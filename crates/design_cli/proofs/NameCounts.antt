@@ -13,9 +13,9 @@ use Rattle.std.proofs.lemmas.List.Sums.{length-filter, list_all-from_AllPass}
 use Rattle.std.proofs.lemmas.Map.Lookups.{exact_bytes}
 use Rattle.order_core.specs.Members.{IsMember, first, second, both, all_elim, not_true}
 use Rattle.design_cli.specs.ByteOrder.{is_before}
-use Rattle.design_cli.specs.Names.{is_recognised}
-use Rattle.design_cli.proofs.OrderLaws.{weak}
-use Rattle.design_cli.proofs.TextLaws.{same_bytes, bytes_same}
+use Rattle.plain_form.specs.Names.{is_recognised}
+use Rattle.order_core.specs.TotalOrders.{weak}
+use Rattle.plain_form.specs.Texts.{same_bytes, bytes_same}
 
 -- how often the name stands in the list
 abbrev pub times : List ℕ → List (List ℕ) → ℕ

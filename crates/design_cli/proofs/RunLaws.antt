@@ -6,25 +6,28 @@ use Rattle.design_cli.specs.declared.library.FileRead.{FileRead}
 use Rattle.std.specs.Str.{bytes_eq}
 use Rattle.design_world.specs.Bytes.{followed}
 use Rattle.design_world.specs.Files.{File}
-use Rattle.order_core.specs.declared.num.Num.{Num}
+use Rattle.value_type.specs.declared.value.Value.{Value}
 use Rattle.order_core.specs.Members.{IsMember}
-use Rattle.design_cli.specs.declared.plain.catalogue.Catalogue.{Catalogue}
+use Rattle.design_model.specs.declared.design.Design.{Design}
 use Rattle.design_cli.specs.declared.status.Status.{Status}
 use Rattle.design_cli.specs.declared.status.Status.TheVariants.{Done, Usage, LibraryRefused, QueryRefused, FolderFault, SinkFault, Memory}
 use Rattle.design_cli.specs.declared.status.LibraryFault.TheVariants as library
 use Rattle.design_cli.specs.declared.status.QueryFault.TheVariants as query
 use Rattle.design_cli.specs.ByteOrder.{is_before}
-use Rattle.design_cli.specs.Feasible.{AreMinima}
+use Rattle.design_model.specs.Feasible.{AreMinima}
 use Rattle.design_cli.specs.Library.{AreAccepted, IsDesign, IsFirstRefused, times_named}
 use Rattle.design_cli.specs.Outcome.{HasNoDesign, HasNoQuery, EndsEarly, IsReport, IsReportOf, Replies, Says, Solves, Writing}
-use Rattle.design_cli.specs.Plain.{IsPlain, IsQuery}
+use Rattle.plain_form.specs.Plain.{IsPlain, IsQuery}
+use Rattle.design_cli.specs.Posets.{no_posets}
 use Rattle.design_cli.specs.Report.{report}
+use Rattle.design_model.specs.Parts.{provided_ports, required_ports}
+use Rattle.value_type.specs.declared.port.Port.{Port}
 use Rattle.design_cli.specs.Words.{Asked}
 use Rattle.design_cli.proofs.BridgeLaws.{found_once}
-use Rattle.design_cli.proofs.CatalogueLaws.{catalogue_back, query_back}
+use Rattle.plain_form.proofs.CatalogueLaws.{catalogue_back, query_back}
 use Rattle.design_cli.proofs.NameCounts.{before_or_same}
-use Rattle.design_cli.proofs.PlainFits.{plain_some}
-use Rattle.design_cli.proofs.TextLaws.{bytes_same}
+use Rattle.plain_form.specs.Fitting.{HasNumberPorts, plain_ports}
+use Rattle.plain_form.specs.Texts.{bytes_same}
 
 -- What holds of the question holds of each question that the words ask.
 pub for_question : (P : Asked → Type 0) (o : Option Asked) (q : Asked) → Some q ≡ o → P q → ForSome o P
@@ -37,17 +40,17 @@ same_file files a b m k e once =
     let fa = found_once (λ file. bytes_eq a.name file.name) files a once m (bytes_same a.name) in
     let fb = found_once (λ file. bytes_eq a.name file.name) files b once k (subst (λ (n : List ℕ). IsTrue (bytes_eq a.name n)) e (bytes_same a.name)) in cc (fa, fb)
 
-same_plain : (bytes : List ℕ) (c d : Catalogue) → IsPlain bytes c → IsPlain bytes d → c ≡ d
+same_plain : (bytes : List ℕ) (c d : Design) → IsPlain bytes c → IsPlain bytes d → c ≡ d
 same_plain bytes c d p q = let pc = catalogue_back bytes c p in let qd = catalogue_back bytes d q in cc (pc, qd)
 
-pub same_design : (files : List File) (name : List ℕ) (c d : Catalogue) → AreAccepted files → IsDesign files name c → IsDesign files name d → c ≡ d
+pub same_design : (files : List File) (name : List ℕ) (c d : Design) → AreAccepted files → IsDesign files name c → IsDesign files name d → c ≡ d
 same_design files name c d a x y =
     let once = (a x.file x.listed x.recognised).once in
     let same : x.file ≡ y.file = same_file files x.file y.file x.listed y.listed (x.named ∙ sym y.named) once in
     same_plain y.file.bytes c d (subst (λ (file : File). IsPlain file.bytes c) same x.plain) y.plain
 
-same_query : (text : List ℕ) (width : ℕ) (f g : List Num) → 0 < width → IsQuery text width f → IsQuery text width g → f ≡ g
-same_query text width f g w x y = let fx = query_back width text f w x in let gy = query_back width text g w y in cc (fx, gy)
+same_query : (text : List ℕ) (ports : List Port) (f g : List Value) → 0 < length ports → IsQuery text ports f → IsQuery text ports g → f ≡ g
+same_query text ports f g w x y = let fx = query_back ports text f w x in let gy = query_back ports text g w y in cc (fx, gy)
 
 -- ---- which statuses come when
 
@@ -99,21 +102,21 @@ module _ (files : List File) (name asked : List ℕ) where
 
   module _ (before now : Option (List ℕ)) (status : Status) (says : Says files name asked before now status)
       (folder : status ≢ FolderFault) (memory : status ≢ Memory) where
-    pub headline_of : (sink : status ≢ SinkFault) (catalogue : Catalogue) (f : List Num) → AreAccepted files → IsDesign files name catalogue → IsQuery asked (length catalogue.provides) f
-        → (status ≡ Done) × (rows : List (List Num)) × AreMinima catalogue f rows × (now ≡ followed before (report rows))
+    pub headline_of : (sink : status ≢ SinkFault) (catalogue : Design) (f : List Value) → AreAccepted files → IsDesign files name catalogue → IsQuery asked (provided_ports catalogue) f
+        → (status ≡ Done) × (rows : List (List Value)) × AreMinima no_posets catalogue f rows × (now ≡ followed before (report (required_ports catalogue) rows))
     headline_of sink catalogue f a d q = go status refl says
       where
-        go : (s : Status) → status ≡ s → Says files name asked before now s → (status ≡ Done) × (rows : List (List Num)) × AreMinima catalogue f rows × (now ≡ followed before (report rows))
+        go : (s : Status) → status ≡ s → Says files name asked before now s → (status ≡ Done) × (rows : List (List Value)) × AreMinima no_posets catalogue f rows × (now ≡ followed before (report (required_ports catalogue) rows))
         go Done e (text, r, w) =
             let c : r.catalogue ≡ catalogue = same_design files name r.catalogue catalogue a r.design d in
-            let of : IsReportOf catalogue asked text = subst (λ (x : Catalogue). IsReportOf x asked text) c r.report_of in
-            let g : of.f ≡ f = same_query asked (length catalogue.provides) of.f f (plain_some d.file.bytes catalogue d.plain) of.is_query q in
-            (e, of.rows, subst (λ (x : List Num). AreMinima catalogue x of.rows) g of.minima, w ∙ ap (followed before) of.text_is)
+            let of : IsReportOf catalogue asked text = subst (λ (x : Design). IsReportOf x asked text) c r.report_of in
+            let g : of.f ≡ f = same_query asked (provided_ports catalogue) of.f f (plain_ports no_posets d.file.bytes catalogue d.plain).some of.is_query q in
+            (e, of.rows, subst (λ (x : List Value). AreMinima no_posets catalogue x of.rows) g of.minima, w ∙ ap (followed before) of.text_is)
         go (LibraryRefused (library.NotYet file)) e h = absurd (h.0.refused (a h.0.file h.0.listed h.0.recognised))
         go (QueryRefused query.NoDesign) e h = absurd (h.0.none catalogue d)
         go (QueryRefused query.NotYet) e h =
             let c : h.0.catalogue ≡ catalogue = same_design files name h.0.catalogue catalogue a h.0.design d in
-            absurd (h.0.none f (subst (λ (x : Catalogue). IsQuery asked (length x.provides) f) (sym c) q))
+            absurd (h.0.none f (subst (λ (x : Design). IsQuery asked (provided_ports x) f) (sym c) q))
         go FolderFault e h = absurd (folder e)
         go SinkFault e h = absurd (sink e)
         go Memory e h = absurd (memory e)
@@ -166,7 +169,7 @@ module _ (files : List File) (name asked : List ℕ) where
         clash : {P : Type 0} (text : List ℕ) → IsReport files name asked text → P
         clash text h =
             let c : h.catalogue ≡ n.catalogue = same_design files name h.catalogue n.catalogue n.accepted h.design n.design in
-            let of : IsReportOf n.catalogue asked text = subst (λ (x : Catalogue). IsReportOf x asked text) c h.report_of in
+            let of : IsReportOf n.catalogue asked text = subst (λ (x : Design). IsReportOf x asked text) c h.report_of in
             absurd (n.none of.f of.is_query)
 
         go : (s : Status) → status ≡ s → Says files name asked before now s → status ≡ QueryRefused query.NotYet

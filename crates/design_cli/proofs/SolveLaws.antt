@@ -17,7 +17,7 @@ module _ (files : List File) (reads : List FileRead) (listed : AreListed files (
   pub solves : (r : Result (List ℕ) Status) → Replies reads name asked r → Solves files name asked r
   solves (Ok text) h = record {
     accepted = accepts files reads listed sorted contents h.designs h.written;
-    catalogue = h.design.catalogue;
+    catalogue = h.design.design;
     design = design_found files reads listed sorted contents h.designs h.design name h.written h.found;
     report_of = h.report_of;
   }
@@ -28,7 +28,7 @@ module _ (files : List File) (reads : List FileRead) (listed : AreListed files (
   }
   solves (Err (QueryRefused query.NotYet)) h = record {
     accepted = accepts files reads listed sorted contents h.designs h.written;
-    catalogue = h.design.catalogue;
+    catalogue = h.design.design;
     design = design_found files reads listed sorted contents h.designs h.design name h.written h.found;
     none = h.none;
   }

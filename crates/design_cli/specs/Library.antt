@@ -3,10 +3,10 @@ use Rattle.std.specs.Prelude.{◌≡◌, ◌≤◌, ℕ, IsTrue, not, List, ◌+
 use Rattle.std.specs.Str.{bytes_eq}
 use Rattle.order_core.specs.Members.{IsMember}
 use Rattle.design_world.specs.Files.{File}
-use Rattle.design_cli.specs.declared.plain.catalogue.Catalogue.{Catalogue}
+use Rattle.design_model.specs.declared.design.Design.{Design}
 use Rattle.design_cli.specs.ByteOrder.{is_before}
-use Rattle.design_cli.specs.Names.{is_named_with, is_recognised}
-use Rattle.design_cli.specs.Plain.{IsPlain}
+use Rattle.plain_form.specs.Names.{is_named_with, is_recognised}
+use Rattle.plain_form.specs.Plain.{IsPlain}
 
 -- what follows the name of a design in the name of its file
 unfoldable pub design_extension : List ℕ
@@ -21,7 +21,7 @@ pub record IsAccepted (files : List File) (file : File) : Type 0 where
   pub once : times_named files file.name ≡ 1
   pub short : length file.bytes ≤ 1048576
   pub design : IsTrue (is_named_with file.name design_extension)
-  pub plain : (catalogue : Catalogue) × IsPlain file.bytes catalogue
+  pub plain : (catalogue : Design) × IsPlain file.bytes catalogue
 
 -- Each file that is read is accepted.
 abbrev pub AreAccepted : List File → Type 0
@@ -37,7 +37,7 @@ pub record IsFirstRefused (files : List File) (name : List ℕ) : Type 0 where
   pub first : (other : File) → IsMember other files → IsTrue (is_recognised other.name) → (IsAccepted files other → ⊥) → IsTrue (not (is_before other.name name))
 
 -- A file that is read writes the design of this name.
-pub record IsDesign (files : List File) (name : List ℕ) (catalogue : Catalogue) : Type 0 where
+pub record IsDesign (files : List File) (name : List ℕ) (catalogue : Design) : Type 0 where
   pub file : File
   pub listed : IsMember file files
   pub named : file.name ≡ name ++ design_extension

@@ -3,7 +3,7 @@ use Rattle.std.specs.Prelude.{ℕ, List, filter, All}
 use Rattle.std.specs.List.Sorted.{IsPermutation}
 use Rattle.design_world.specs.Files.{File, GivesContent, names_of}
 use Rattle.design_cli.specs.declared.library.FileRead.{FileRead}
-use Rattle.design_cli.specs.Names.{is_recognised}
+use Rattle.plain_form.specs.Names.{is_recognised}
 
 -- the names of the files that are read, each as often as it stands in the folder
 abbrev pub AreListed : List File → List (List ℕ) → Type 0

@@ -1,52 +1,54 @@
 -- What `solve` answers.
 use Rattle.std.specs.Prelude.{◌≡◌, ◌⊎◌, ℕ, List, Option, Some, None, Result, Ok, Err, take, length, find}
 use Rattle.std.specs.Str.{bytes_eq}
-use Rattle.order_core.specs.declared.num.Num.{Num}
+use Rattle.value_type.specs.declared.value.Value.{Value}
 use Rattle.design_world.specs.Bytes.{followed}
 use Rattle.design_world.specs.Files.{File}
-use Rattle.design_cli.specs.declared.library.Design.{Design}
+use Rattle.design_cli.specs.declared.library.NamedDesign.{NamedDesign}
 use Rattle.design_cli.specs.declared.library.FileRead.{FileRead}
-use Rattle.design_cli.specs.declared.plain.catalogue.Catalogue.{Catalogue}
+use Rattle.design_model.specs.declared.design.Design.{Design}
 use Rattle.design_cli.specs.declared.status.Status.{Status}
 use Rattle.design_cli.specs.declared.status.Status.TheVariants.{Done, Usage, LibraryRefused, QueryRefused, FolderFault, SinkFault, Memory}
 use Rattle.design_cli.specs.declared.status.LibraryFault.{LibraryFault}
 use Rattle.design_cli.specs.declared.status.LibraryFault.TheVariants as library
 use Rattle.design_cli.specs.declared.status.QueryFault.{QueryFault}
 use Rattle.design_cli.specs.declared.status.QueryFault.TheVariants as query
-use Rattle.design_cli.specs.Feasible.{AreMinima}
+use Rattle.design_model.specs.Feasible.{AreMinima}
 use Rattle.design_cli.specs.Judged.{AllWrite, FirstWritesNone}
 use Rattle.design_cli.specs.Library.{AreAccepted, IsDesign, IsFirstRefused}
-use Rattle.design_cli.specs.Plain.{IsQuery}
+use Rattle.plain_form.specs.Plain.{IsQuery}
 use Rattle.design_cli.specs.Report.{report}
+use Rattle.design_model.specs.Parts.{provided_ports, required_ports}
+use Rattle.design_cli.specs.Posets.{no_posets}
 
 -- The text is the report of the minima of a catalogue for what the query writes.
-pub record IsReportOf (catalogue : Catalogue) (asked text : List ℕ) : Type 0 where
-  pub f : List Num
-  pub is_query : IsQuery asked (length catalogue.provides) f
-  pub rows : List (List Num)
-  pub minima : AreMinima catalogue f rows
-  pub text_is : text ≡ report rows
+pub record IsReportOf (catalogue : Design) (asked text : List ℕ) : Type 0 where
+  pub f : List Value
+  pub is_query : IsQuery asked (provided_ports catalogue) f
+  pub rows : List (List Value)
+  pub minima : AreMinima no_posets catalogue f rows
+  pub text_is : text ≡ report (required_ports catalogue) rows
 
 -- ---- of the files of a folder
 
 -- The library is accepted, and the text is the report of its design of this name.
 pub record IsReport (files : List File) (name asked text : List ℕ) : Type 0 where
   pub accepted : AreAccepted files
-  pub catalogue : Catalogue
+  pub catalogue : Design
   pub design : IsDesign files name catalogue
   pub report_of : IsReportOf catalogue asked text
 
 -- The library is accepted, and has no design of this name.
 pub record HasNoDesign (files : List File) (name : List ℕ) : Type 0 where
   pub accepted : AreAccepted files
-  pub none : (catalogue : Catalogue) → IsDesign files name catalogue → ⊥
+  pub none : (catalogue : Design) → IsDesign files name catalogue → ⊥
 
 -- The library is accepted and has the design, but the text writes no query for it.
 pub record HasNoQuery (files : List File) (name asked : List ℕ) : Type 0 where
   pub accepted : AreAccepted files
-  pub catalogue : Catalogue
+  pub catalogue : Design
   pub design : IsDesign files name catalogue
-  pub none : (f : List Num) → IsQuery asked (length catalogue.provides) f → ⊥
+  pub none : (f : List Value) → IsQuery asked (provided_ports catalogue) f → ⊥
 
 -- Why a library or a query was refused.
 abbrev pub IsLibraryRefusal : List File → LibraryFault → Type 0
@@ -74,23 +76,23 @@ Says files name asked before now Usage = ⊥
 
 -- Each file writes its design, and the text is the report of the one of this name.
 pub record Answers (files : List FileRead) (name asked text : List ℕ) : Type 0 where
-  pub designs : List Design
+  pub designs : List NamedDesign
   pub written : AllWrite files designs
-  pub design : Design
+  pub design : NamedDesign
   pub found : find (λ design. bytes_eq design.name name) designs ≡ Some design
-  pub report_of : IsReportOf design.catalogue asked text
+  pub report_of : IsReportOf design.design asked text
 
 pub record FindsNone (files : List FileRead) (name : List ℕ) : Type 0 where
-  pub designs : List Design
+  pub designs : List NamedDesign
   pub written : AllWrite files designs
   pub none : find (λ design. bytes_eq design.name name) designs ≡ None
 
 pub record AsksNone (files : List FileRead) (name asked : List ℕ) : Type 0 where
-  pub designs : List Design
+  pub designs : List NamedDesign
   pub written : AllWrite files designs
-  pub design : Design
+  pub design : NamedDesign
   pub found : find (λ design. bytes_eq design.name name) designs ≡ Some design
-  pub none : (f : List Num) → IsQuery asked (length design.catalogue.provides) f → ⊥
+  pub none : (f : List Value) → IsQuery asked (provided_ports design.design) f → ⊥
 
 abbrev pub RefusesQuery : List FileRead → List ℕ → List ℕ → QueryFault → Type 0
 RefusesQuery files name asked query.NoDesign = FindsNone files name
@@ -112,9 +114,9 @@ Replies files name asked (Ok text) = Answers files name asked text
 Replies files name asked (Err status) = Refuses files name asked status
 
 -- What the answer to a query says of the catalogue.
-abbrev pub AnswersQuery : Catalogue → List ℕ → Result (List ℕ) Status → Type 0
+abbrev pub AnswersQuery : Design → List ℕ → Result (List ℕ) Status → Type 0
 AnswersQuery catalogue asked (Ok text) = IsReportOf catalogue asked text
-AnswersQuery catalogue asked (Err (QueryRefused query.NotYet)) = (f : List Num) → IsQuery asked (length catalogue.provides) f → ⊥
+AnswersQuery catalogue asked (Err (QueryRefused query.NotYet)) = (f : List Value) → IsQuery asked (provided_ports catalogue) f → ⊥
 AnswersQuery catalogue asked (Err Memory) = Unit {0}
 AnswersQuery catalogue asked (Err status) = ⊥
 

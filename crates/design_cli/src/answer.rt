@@ -1,34 +1,45 @@
-ghost use Rattle.std.specs.Prelude.{◌≡◌, ◌<◌, IfOk, IsTrue, length, List};
-ghost use Rattle.design_cli.specs.Feasible.{AreMinima, rows_fit};
+ghost use Rattle.std.specs.Prelude.{◌≡◌, IfOk, IsTrue, List};
+ghost use Rattle.value_type.specs.declared.value.Value.{Value};
+ghost use Rattle.value_type.specs.Fits.{row_fits};
+ghost use Rattle.value_type.specs.PortKinds.{port_kinds};
+ghost use Rattle.design_model.specs.Feasible.{AreMinima};
+ghost use Rattle.design_model.specs.Holds.{rows_fit};
+ghost use Rattle.design_model.specs.Parts.{provided_ports, required_ports};
+ghost use Rattle.plain_form.specs.Fitting.{HasNumberPorts};
 ghost use Rattle.design_cli.specs.Outcome.{AnswersQuery, Replies};
+ghost use Rattle.design_cli.specs.Posets.{no_posets};
 ghost use Rattle.design_cli.specs.Report.{report};
-ghost use Rattle.design_cli.specs.Rows.{fits};
 
-use crate::library::{FileRead, LibraryError, catalogue_named, designs_of};
-use crate::minimal::minimal_rows;
-use crate::plain::{Catalogue, ReadFault, read_query};
+use crate::library::{FileRead, LibraryError, design_named, designs_of};
 use crate::report::report_text;
 use crate::status::{LibraryFault, QueryFault, Status};
-use order_core::{List, NoMemory, Num, Text};
+use catalogue_solve::minimal_rows;
+use design_model::Design;
+use order_core::{List, NoMemory, Text};
+use plain_form::{ReadFault, read_query};
 use std::alloc::Global;
+use value_type::{Row, Types};
 
 /// The report of the minima of a catalogue.
-fn minimal_report(alloc: Global, catalogue: Catalogue, f: &List<Num>) -> Result<Text, NoMemory>
-    requires rows_fit { IsTrue (rows_fit catalogue) }
-    requires f_fits { IsTrue (fits (length catalogue.provides) f.now) }
-    ensures { IfOk result (λ text. (rows : List (List Num)) × AreMinima catalogue f.now rows × (text ≡ report rows)) }
+fn minimal_report(alloc: Global, catalogue: &Design, f: &Row) -> Result<Text, NoMemory>
+    requires rows_fit { IsTrue (rows_fit no_posets catalogue.now) }
+    requires f_fits { IsTrue (row_fits no_posets (port_kinds (provided_ports catalogue.now)) f.now) }
+    ensures { IfOk result (λ text. (rows : List (List Value)) × AreMinima no_posets catalogue.now f.now rows × (text ≡ report (required_ports catalogue.now) rows)) }
 {
-    let rows = minimal_rows(alloc, catalogue, f)?;
-    report_text(alloc, rows.items())
+    let types = Types {
+        posets: List::of(Vec::new(alloc)),
+    };
+    let rows = minimal_rows(alloc, &types, catalogue, f)?;
+    report_text(alloc, catalogue.requires_(), rows.items())
 }
 
 /// The report of a catalogue for a query.
-fn query_report(alloc: Global, catalogue: Catalogue, query: &str) -> Result<Text, Status>
-    requires rows_fit { IsTrue (rows_fit catalogue) }
-    requires some_port { 0 < length catalogue.provides }
-    ensures { AnswersQuery catalogue query.now result }
+fn query_report(alloc: Global, catalogue: &Design, query: &str) -> Result<Text, Status>
+    requires rows_fit { IsTrue (rows_fit no_posets catalogue.now) }
+    requires ports { HasNumberPorts catalogue.now }
+    ensures { AnswersQuery catalogue.now query.now result }
 {
-    let f = match read_query(alloc, catalogue.provides.items().len(), query) {
+    let f = match read_query(alloc, catalogue.provides(), query) {
         Ok(f) => f,
         Err(ReadFault::NotPlain) => return Err(Status::QueryRefused(QueryFault::NotYet)),
         Err(ReadFault::Memory) => return Err(Status::Memory),
@@ -50,8 +61,8 @@ pub fn answer(alloc: Global, files: &[FileRead], name: &str, query: &str) -> Res
         }
         Err(LibraryError::Memory) => return Err(Status::Memory),
     };
-    match catalogue_named(designs, name) {
-        Some(catalogue) => query_report(alloc, catalogue, query),
+    match design_named(designs, name) {
+        Some(design) => query_report(alloc, &design, query),
         None => Err(Status::QueryRefused(QueryFault::NoDesign)),
     }
 }

@@ -3,10 +3,10 @@ ghost use Rattle.std.specs.Option.{option_map};
 ghost use Rattle.std.specs.Str.{bytes_eq};
 ghost use Rattle.design_cli.specs.Judged.{AllWrite, DiffersFromNext, IsRefusal, IsRefusalOf, WritesDesign};
 
-use crate::name::is_name_text;
-use crate::plain::{Catalogue, ReadFault, before, read_catalogue, text_of};
+use design_model::Design;
 use design_world::Content;
 use order_core::{NoMemory, Text};
+use plain_form::{ReadFault, before, is_name_text, read_catalogue, text_of};
 use std::alloc::Global;
 
 /// What follows the name of a design in the name of its file.
@@ -20,10 +20,10 @@ pub struct FileRead {
 }
 
 /// A design of the library: its name, and what its file writes.
-#[derive(Debug, Drop)]
-pub struct Design {
+#[derive(Drop)]
+pub struct NamedDesign {
     pub name: Text,
-    pub catalogue: Catalogue,
+    pub design: Design,
 }
 
 /// Why a library gave no designs.
@@ -37,9 +37,9 @@ pub enum LibraryError {
 
 /// The design that a file writes.
 #[tactic(auto, unfolding(crate::specs::Library::design_extension))]
-fn design_of(alloc: Global, file: &FileRead) -> Result<Design, ReadFault>
+fn design_of(alloc: Global, file: &FileRead) -> Result<NamedDesign, ReadFault>
     ensures design { IfOk result (WritesDesign file.now) }
-    ensures none { IsErrOf result ReadFault.NotPlain → (design : Design) → WritesDesign file.now design → ⊥ }
+    ensures none { IsErrOf result ReadFault.NotPlain → (design : NamedDesign) → WritesDesign file.now design → ⊥ }
 {
     let name = before(DESIGN_EXTENSION.as_bytes(), file.name.as_str().as_bytes())?;
     if !is_name_text(name) {
@@ -48,9 +48,9 @@ fn design_of(alloc: Global, file: &FileRead) -> Result<Design, ReadFault>
     let Content::Whole(bytes) = &file.content else {
         return Err(ReadFault::NotPlain);
     };
-    let catalogue = read_catalogue(alloc, bytes.items())?;
+    let design = read_catalogue(alloc, bytes.items())?;
     let name = text_of(alloc, name)?;
-    Ok(Design { name, catalogue })
+    Ok(NamedDesign { name, design })
 }
 
 /// Whether another name stands in front of the others.
@@ -83,7 +83,7 @@ fn refusal(alloc: Global, file: &FileRead) -> LibraryError
 }
 
 /// The designs that the files write, which stand in the order of their names.
-pub fn designs_of(alloc: Global, files: &[FileRead]) -> Result<Vec<Design>, LibraryError>
+pub fn designs_of(alloc: Global, files: &[FileRead]) -> Result<Vec<NamedDesign>, LibraryError>
     ensures designs { IfOk result (λ designs. AllWrite files.now designs.items) }
     ensures refused { IfErr result (IsRefusal files.now) }
 {
@@ -106,7 +106,7 @@ pub fn designs_of(alloc: Global, files: &[FileRead]) -> Result<Vec<Design>, Libr
 }
 
 /// Where the design of this name stands.
-fn index_named(designs: &[Design], name: &str) -> Option<usize>
+fn index_named(designs: &[NamedDesign], name: &str) -> Option<usize>
     ensures { MatchOption result (find (λ design. bytes_eq design.name name.now) designs.now ≡ None)
         (λ at. (at < length designs.now) × (find (λ design. bytes_eq design.name name.now) designs.now ≡ slice_get designs.now at)) }
 {
@@ -118,14 +118,14 @@ fn index_named(designs: &[Design], name: &str) -> Option<usize>
     None
 }
 
-/// The catalogue of the design of this name.
-pub fn catalogue_named(mut designs: Vec<Design>, name: &str) -> Option<Catalogue>
-    ensures { result ≡ option_map (λ design. design.catalogue) (find (λ design. bytes_eq design.name name.now) designs.items) }
+/// The design of this name.
+pub fn design_named(mut designs: Vec<NamedDesign>, name: &str) -> Option<Design>
+    ensures { result ≡ option_map (λ design. design.design) (find (λ design. bytes_eq design.name name.now) designs.items) }
 {
     let at = index_named(&designs, name)?;
-    let Design {
+    let NamedDesign {
         name: _name,
-        catalogue,
+        design,
     } = designs.swap_remove(at);
-    Some(catalogue)
+    Some(design)
 }

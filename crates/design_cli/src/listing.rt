@@ -5,13 +5,13 @@ ghost use Rattle.design_world.specs.Fault.{FolderRunsReliably, HasCause, NeverFa
 ghost use Rattle.design_world.specs.Files.{HasNamed, SameFiles};
 ghost use Rattle.design_cli.specs.ByteOrder.{is_before};
 ghost use Rattle.design_cli.specs.Listing.{AreListed, AreRead};
-ghost use Rattle.design_cli.specs.Names.{is_recognised};
+ghost use Rattle.plain_form.specs.Names.{is_recognised};
 
 use crate::byte_order::sort_texts;
 use crate::library::FileRead;
-use crate::name::is_recognised_name;
 use design_world::{Folder, WorldFault};
 use order_core::{NoMemory, Text};
+use plain_form::is_recognised_name;
 use std::alloc::Global;
 
 /// The most bytes of a file.

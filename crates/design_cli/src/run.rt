@@ -1,14 +1,16 @@
 ghost use Rattle.std.specs.Prelude.{◌≡◌, ◌≢◌, ◌↔◌, ◌⊎◌, ◌≤◌, ℕ, Err, IfErr, IsTrue, List, None, length, map};
 ghost use Rattle.std.specs.Option.{ForSome};
-ghost use Rattle.order_core.specs.declared.num.Num.{Num};
+ghost use Rattle.value_type.specs.declared.value.Value.{Value};
 ghost use Rattle.design_world.specs.Bytes.{followed};
 ghost use Rattle.design_world.specs.Fault.{NeverFall, Rose};
 ghost use Rattle.design_world.specs.Files.{SameFiles};
-ghost use Rattle.design_cli.specs.declared.plain.catalogue.Catalogue.{Catalogue};
-ghost use Rattle.design_cli.specs.Feasible.{AreMinima};
+ghost use Rattle.design_model.specs.declared.design.Design.{Design};
+ghost use Rattle.design_model.specs.Feasible.{AreMinima};
+ghost use Rattle.design_model.specs.Parts.{provided_ports, required_ports};
 ghost use Rattle.design_cli.specs.Library.{AreAccepted, IsDesign, IsFirstRefused};
 ghost use Rattle.design_cli.specs.Outcome.{BeforeWriting, HasNoDesign, HasNoQuery, EndsEarly, NoFault, Says, Solves, Writing};
-ghost use Rattle.design_cli.specs.Plain.{IsQuery};
+ghost use Rattle.design_cli.specs.Posets.{no_posets};
+ghost use Rattle.plain_form.specs.Plain.{IsQuery};
 ghost use Rattle.design_cli.specs.Report.{report};
 ghost use Rattle.design_cli.specs.Words.{asked_by};
 
@@ -72,13 +74,13 @@ pub fn run<F: Folder, S: Source, K: Sink>(
     // Where the library is accepted, has the design and the query is one of it, and no device failed, exactly the
     // minimal rows are written, unless memory was wanting.
     ensures headline { ForSome (asked_by (map (λ word. word.now) words.now)) (λ asked. ForSome (F.files folder.old asked.place) (λ files.
-        (catalogue : Catalogue) (f : List Num) → AreAccepted files → IsDesign files asked.name catalogue → IsQuery asked.query (length catalogue.provides) f
+        (catalogue : Design) (f : List Value) → AreAccepted files → IsDesign files asked.name catalogue → IsQuery asked.query (provided_ports catalogue) f
         → (Rose (F.faults folder.old asked.place) (F.faults folder.new asked.place) → ⊥) → (Rose (K.faults out.old) (K.faults out.new) → ⊥) → result ≢ Status.Memory
-        → (result ≡ Status.Done) × (rows : List (List Num)) × AreMinima catalogue f rows × (K.written out.new ≡ followed (K.written out.old) (report rows)))) }
+        → (result ≡ Status.Done) × (rows : List (List Value)) × AreMinima no_posets catalogue f rows × (K.written out.new ≡ followed (K.written out.old) (report (required_ports catalogue) rows)))) }
 
     // With reliable devices an accepted library and query are answered, unless memory was wanting.
     ensures complete { IsTrue (F.is_reliable folder.old) → IsTrue (K.is_reliable out.old) → ForSome (asked_by (map (λ word. word.now) words.now)) (λ asked. ForSome (F.files folder.old asked.place) (λ files.
-        (catalogue : Catalogue) (f : List Num) → AreAccepted files → IsDesign files asked.name catalogue → IsQuery asked.query (length catalogue.provides) f
+        (catalogue : Design) (f : List Value) → AreAccepted files → IsDesign files asked.name catalogue → IsQuery asked.query (provided_ports catalogue) f
         → (result ≡ Status.Done) ⊎ (result ≡ Status.Memory))) }
 
     // What each status says of the files, the name and the query, and of the bytes that were written.

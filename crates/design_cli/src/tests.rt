@@ -12,6 +12,11 @@ const MOTORS: &str =
 const SAME: &str =
     "catalogue { provides lift [Nat]; requires mass [Nat]; row a: 100 -> 10; row b: 120 -> 10; }\n";
 
+const ROUNDING: &str = "catalogue { provides x [g]; requires y [g]; row a: 1.9 g -> 1.1 g; }";
+
+const UNITS: &str =
+    "catalogue { provides x [kg]; requires y [kg]; requires z [kg]; requires w [Nat]; row a: 1 kg -> 567 g, 2 kg, 3.5; }";
+
 /// How a run ended, and what it left.
 #[derive(Drop)]
 struct Ran {
@@ -110,6 +115,37 @@ fn same_mass(rt: HostRuntime) -> Result<(), Fail> {
     let words = ["solve", "-", "same", "90"];
     let done = run_on(alloc, &words, folder(alloc, files, &[])?, &[])?;
     expect(&rt, &done, 0, "", "finished 1\n10\n");
+    Ok(())
+}
+
+/// Runs on the one design, with devices that never fail.
+fn run_on_design(alloc: Global, text: &str, query: &str) -> Result<Ran, Fail> {
+    let files = vec![in alloc; file(alloc, "design.mcdp", text)?]?;
+    let words = ["solve", "lib", "design", query];
+    run_on(alloc, &words, folder(alloc, files, &[])?, &[])
+}
+
+#[test]
+fn rounding(rt: HostRuntime) -> Result<(), Fail> {
+    let alloc = rt.alloc();
+    let done = run_on_design(alloc, ROUNDING, "0.5 g")?;
+    expect(&rt, &done, 0, "", "finished 1\n2 g\n");
+    let none = run_on_design(alloc, ROUNDING, "1.5 g")?;
+    expect(&rt, &none, 0, "", "infeasible\n");
+    Ok(())
+}
+
+#[test]
+fn units(rt: HostRuntime) -> Result<(), Fail> {
+    let alloc = rt.alloc();
+    let done = run_on_design(alloc, UNITS, "999.5 g")?;
+    expect(&rt, &done, 0, "", "finished 1\n567/1000 kg, 2 kg, 4\n");
+    let none = run_on_design(alloc, UNITS, "1.000001 kg")?;
+    expect(&rt, &none, 0, "", "infeasible\n");
+    let time = run_on_design(alloc, UNITS, "1 s")?;
+    expect(&rt, &time, 5, "query: not yet", "");
+    let plain = run_on_design(alloc, UNITS, "1")?;
+    expect(&rt, &plain, 5, "query: not yet", "");
     Ok(())
 }
 

@@ -1,5 +1,5 @@
 -- What is read is written so, and what is written so is read: whole catalogues and queries.
-use Rattle.std.proofs.Common.{◌≡◌, ◌∙◌, refl, sym, ap, subst, ℕ, suc, ◌<◌, Bool, true, false, ◌&&◌, ◌==◌, not, IsTrue, List, [], ◌∷◌, ◌++◌, length, map, drop, cond, Option, Some, None, codes, arith, append_assoc, ◌⊎◌, inl, inr}
+use Rattle.std.proofs.Common.{◌≡◌, ◌∙◌, refl, sym, ap, ℕ, ◌<◌, ◌&&◌, ◌==◌, IsTrue, List, [], ◌∷◌, ◌++◌, length, map, drop, Option, Some, None, codes, arith, append_assoc, ◌⊎◌, inl, inr}
 use Rattle.std.proofs.lemmas.List.{length-map}
 use Rattle.std.proofs.lemmas.List.Folds.{list_all-append}
 use Rattle.std.proofs.lemmas.List.Splits.{join_with_byte-slice_split}
@@ -13,13 +13,13 @@ use Rattle.design_model.specs.declared.design.Design.{Design}
 use Rattle.design_model.specs.declared.design.Design.TheVariants.{Cat}
 use Rattle.plain_form.specs.declared.rounding.Rounding.TheVariants.{Up}
 use Rattle.plain_form.specs.Maybe.{◌>>=◌, bind_some, cond_some}
-use Rattle.plain_form.specs.Plain.{cells, type_text, are_distinct, are_some_distinct, port_names, row_names, means_cells, means_ports, means_rows, means_catalogue, means, row_text, port_text, catalogue_text, Written, WrittenPort, WrittenRow, IsPlain, IsQuery}
+use Rattle.plain_form.specs.Plain.{cells, type_text, are_some_distinct, port_names, row_names, means_ports, means_rows, means_catalogue, means, row_text, port_text, catalogue_text, Written, WrittenPort, WrittenRow, IsPlain, IsQuery}
 use Rattle.plain_form.specs.Reading.{cells_at, rows_at, port_parts, port_at, ports_at, inner_at, rows_after, requires_after, statements_at, catalogue_at, query_at}
-use Rattle.plain_form.specs.Texts.{after_text, before_text}
-use Rattle.plain_form.proofs.CellLaws.{spaced, cells_some, cells_back}
+use Rattle.plain_form.specs.Texts.{after_text, before_text, before_some, before_append}
+use Rattle.plain_form.proofs.CellLaws.{cells_some, cells_back}
 use Rattle.plain_form.proofs.Cuts.{has_no}
 use Rattle.plain_form.proofs.RowLaws.{row_statement, rows_some, rows_back, rows_no, port_statement, ports_some, ports_back, ports_no, same_many}
-use Rattle.plain_form.proofs.TextLaws.{after_some, after_append, before_some, before_append, split_join, closed, closed_join}
+use Rattle.plain_form.proofs.TextLaws.{after_some, after_append, split_join, closed, closed_join}
 
 -- ---- statements
 

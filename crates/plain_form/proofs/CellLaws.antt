@@ -1,11 +1,10 @@
 -- What is read is written so, and what is written so is read: numbers and cells.
 use Rattle.std.proofs.Common.{◌≡◌, ◌∙◌, refl, sym, ap, subst, ℕ, ◌<◌, Bool, true, false, ◌&&◌, ◌==◌, not, IsTrue, List, [], ◌∷◌, ◌++◌, length, map, cond, Option, Some, None, codes, arith, eqb-true, append_assoc}
-use Rattle.std.proofs.lemmas.Bool.Decides.{nat_tests}
 use Rattle.std.proofs.lemmas.List.Folds.{list_all-append}
 use Rattle.std.proofs.lemmas.List.Splits.{join_with_byte-slice_split}
 use Rattle.std.specs.List.{list_all, slice_split, join_with_byte}
 use Rattle.order_core.specs.Members.{first, second, both, append_nil}
-use Rattle.unit_core.specs.Measure.{Measure, one}
+use Rattle.unit_core.specs.Measure.{one}
 use Rattle.unit_core.specs.Ratio.{Ratio}
 use Rattle.unit_core.specs.UnitTable.{unit_named}
 use Rattle.value_type.specs.declared.kind.Kind.{Kind, out-Kind}
@@ -16,7 +15,7 @@ use Rattle.value_type.specs.declared.value.Value.{Value}
 use Rattle.plain_form.specs.declared.rounding.Rounding.{Rounding}
 use Rattle.plain_form.specs.Maybe.{◌>>=◌, bind_some, when_some}
 use Rattle.plain_form.specs.Names.{is_digit, is_letter, is_name}
-use Rattle.plain_form.specs.Plain.{WrittenNumber, WrittenCell, number_text, spaced_unit, cell_text, joined, cells, decimals_of, digits_of, is_number, counts, count_of, over_num, over_den, means_number, means_amount, means_cell, means_cells}
+use Rattle.plain_form.specs.Plain.{WrittenNumber, WrittenCell, number_text, spaced_unit, cell_text, cells, decimals_of, is_number, counts, count_of, over_num, over_den, means_number, means_amount, means_cell, means_cells}
 use Rattle.plain_form.specs.Reading.{number_at, units_at, amount_at, cell_at, each_cell, cells_at}
 use Rattle.plain_form.specs.Texts.{after_text, cut_at}
 use Rattle.plain_form.proofs.Cuts.{has_no, cut_none}

@@ -1,7 +1,6 @@
 -- With another number of cells than ports nothing is read.
 use Rattle.std.proofs.Common.{◌≡◌, ◌≢◌, refl, ap, ℕ, suc, List, [], ◌∷◌, length, Option, Some, None}
 use Rattle.value_type.specs.declared.port.Port.{Port}
-use Rattle.value_type.specs.declared.value.Value.{Value}
 use Rattle.plain_form.specs.declared.rounding.Rounding.{Rounding}
 use Rattle.plain_form.specs.Maybe.{◌>>=◌}
 use Rattle.plain_form.specs.Reading.{cell_at, each_cell}

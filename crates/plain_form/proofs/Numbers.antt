@@ -1,5 +1,5 @@
 -- What the digits of a number are.
-use Rattle.std.proofs.Common.{◌≡◌, ℕ, ◌+◌, ◌≤◌, ◌==◌, not, nat_le, IsTrue, List, ◌++◌, length, arith, leb-true}
+use Rattle.std.proofs.Common.{◌+◌, ◌≤◌, ◌==◌, not, nat_le, IsTrue, length, arith, leb-true}
 use Rattle.std.proofs.Math.ListN.{length-append}
 use Rattle.std.proofs.lemmas.List.Folds.{list_all-append}
 use Rattle.std.specs.List.{list_all}

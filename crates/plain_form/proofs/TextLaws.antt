@@ -1,14 +1,14 @@
 -- Parts of texts, put together again.
-use Rattle.std.proofs.Common.{◌≡◌, ◌∙◌, refl, sym, ap, ℕ, ◌-◌, Bool, true, false, ◌==◌, not, IsTrue, List, [], ◌∷◌, ◌++◌, length, take, drop, cond, Option, Some, None, arith, eqb-true, eq-eqb, append_assoc}
-use Rattle.std.proofs.lemmas.List.{take-append-drop, length-append}
+use Rattle.std.proofs.Common.{◌≡◌, ◌∙◌, refl, sym, ap, ℕ, Bool, true, false, ◌==◌, not, IsTrue, List, [], ◌∷◌, ◌++◌, length, take, drop, cond, Option, Some, None, eqb-true, eq-eqb, append_assoc}
+use Rattle.std.proofs.lemmas.List.{take-append-drop}
 use Rattle.std.proofs.lemmas.List.Splits.{slice_split-cons_yes, slice_split-cons_no}
 use Rattle.std.proofs.Math.Seq.{take-append_seam, drop-append_seam}
 use Rattle.std.specs.List.{list_all, slice_split, onto_first, join_with_byte}
 use Rattle.std.specs.Option.{option_map}
 use Rattle.std.specs.Str.{bytes_eq}
-use Rattle.order_core.specs.Members.{first, second, both, not_true}
+use Rattle.order_core.specs.Members.{first, second, not_true}
 use Rattle.plain_form.specs.Maybe.{cond_some}
-use Rattle.plain_form.specs.Texts.{after_text, before_text, cut_at, same_bytes, bytes_same}
+use Rattle.plain_form.specs.Texts.{after_text, cut_at, same_bytes, bytes_same}
 use Rattle.plain_form.proofs.Cuts.{has_no}
 
 pub after_some : (text bytes rest : List ℕ) → after_text text bytes ≡ Some rest → bytes ≡ text ++ rest
@@ -18,19 +18,6 @@ after_some text bytes rest h =
 
 pub after_append : (text rest : List ℕ) → after_text text (text ++ rest) ≡ Some rest
 after_append text rest = rw (take-append_seam text rest, drop-append_seam text rest) (ap (λ b. cond b (Some rest) None) (bytes_same text))
-
-pub before_some : (text bytes front : List ℕ) → before_text text bytes ≡ Some front → bytes ≡ front ++ text
-before_some text bytes front h =
-    let n = length bytes - length text in
-    let c = cond_some (bytes_eq (drop n bytes) text) (take n bytes) front h in
-    sym (take-append-drop n bytes) ∙ ap (λ back. take n bytes ++ back) (same_bytes _ _ c.0) ∙ ap (λ f. f ++ text) c.1
-
-length_front : (front text : List ℕ) → length (front ++ text) - length text ≡ length front
-length_front front text = omega (arith, length-append front text)
-
-pub before_append : (text front : List ℕ) → before_text text (front ++ text) ≡ Some front
-before_append text front =
-    rw (length_front front text, take-append_seam front text, drop-append_seam front text) (ap (λ b. cond b (Some front) None) (bytes_same text))
 
 pub cut_some : (byte : ℕ) (bytes : List ℕ) (parts : List ℕ × List ℕ) → cut_at byte bytes ≡ Some parts → bytes ≡ parts.0 ++ byte ∷ parts.1
 cut_some byte [] parts h = absurd (cc)

@@ -1,10 +1,8 @@
 -- The names of units are letters.
-use Rattle.std.proofs.Common.{◌≡◌, refl, sym, subst, ℕ, Bool, true, false, IsTrue, List, [], ◌∷◌, cond, Option, Some, None, codes}
-use Rattle.std.proofs.lemmas.Bool.Decides.{nat_tests}
+use Rattle.std.proofs.Common.{◌≡◌, refl, ℕ, IsTrue, List, Option, Some, None, codes}
 use Rattle.std.specs.List.{list_all}
-use Rattle.std.specs.Str.{bytes_eq, IsUtf8}
+use Rattle.std.specs.Str.{IsUtf8}
 use Rattle.std.proofs.lemmas.Str.{IsUtf8-from_ascii}
-use Rattle.order_core.specs.Members.{first, second}
 use Rattle.unit_core.specs.Measure.{Measure}
 use Rattle.unit_core.specs.UnitTable.{Named, units, unit_named}
 use Rattle.plain_form.specs.Names.{is_letter}

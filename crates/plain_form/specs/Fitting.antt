@@ -1,13 +1,10 @@
 -- What is written in the plain form fits its ports, which are of numbers.
-use Rattle.std.specs.Prelude.{◌≡◌, ◌<◌, ◌≤◌, ◌*◌, ℕ, Bool, true, false, ◌&&◌, ◌==◌, not, nat_le, IsTrue, List, [], ◌∷◌, length, map, cond, Option, Some, None, Result, Ok, Err, is_ok, codes}
+use Rattle.std.specs.Prelude.{◌≡◌, ◌<◌, ◌≤◌, ◌*◌, ℕ, Bool, true, false, ◌&&◌, ◌==◌, nat_le, IsTrue, List, [], ◌∷◌, length, cond, Option, Some, None, Result, Ok, Err, is_ok}
 use Rattle.std.specs.List.{list_all}
 use Rattle.std.specs.Str.{bytes_eq}
 use Rattle.std.proofs.Common.{refl, sym, ap, subst, ◌∙◌, arith, le-leb}
 use Rattle.std.proofs.Math.Nat.{mul-le-mul_right}
-use Rattle.std.proofs.lemmas.List.{length-map}
 use Rattle.order_core.specs.Members.{first, second, both}
-use Rattle.order_core.specs.Tuple.{are_values}
-use Rattle.unit_core.specs.declared.dim.Dim.{Dim}
 use Rattle.unit_core.specs.declared.fault.FractionFault.{FractionFault}
 use Rattle.unit_core.specs.Measure.{Measure, one}
 use Rattle.unit_core.specs.Ratio.{Ratio, quotient, quotient_ok, lowest_is}
@@ -21,7 +18,7 @@ use Rattle.value_type.specs.declared.port.PortUnit.{PortUnit, out-PortUnit}
 use Rattle.value_type.specs.declared.port.PortUnit.TheOpen.{PortUnit-F}
 use Rattle.value_type.specs.declared.port.PortUnit.TheVariants as unit
 use Rattle.value_type.specs.declared.poset.Types.{Types}
-use Rattle.value_type.specs.declared.value.Value.{Value, out-Value}
+use Rattle.value_type.specs.declared.value.Value.{Value}
 use Rattle.value_type.specs.declared.value.Value.TheVariants as value
 use Rattle.value_type.specs.Fits.{fits, row_fits}
 use Rattle.value_type.specs.KindLaws.{fits-Num}
@@ -31,13 +28,13 @@ use Rattle.design_model.specs.declared.design.CatRow.{CatRow}
 use Rattle.design_model.specs.declared.design.Design.{Design}
 use Rattle.design_model.specs.declared.design.Design.TheVariants.{Cat}
 use Rattle.design_model.specs.Holds.{fits_ports, rows_fit}
-use Rattle.design_model.specs.Parts.{provided_ports, required_ports, rows_of}
+use Rattle.design_model.specs.Parts.{provided_ports, required_ports}
 use Rattle.plain_form.specs.declared.rounding.Rounding.{Rounding}
 use Rattle.plain_form.specs.declared.rounding.Rounding.TheVariants.{Up, Down}
-use Rattle.plain_form.specs.Maybe.{◌>>=◌, bind_some, cond_some, when_some}
+use Rattle.plain_form.specs.Maybe.{bind_some, cond_some, when_some}
 use Rattle.plain_form.specs.Names.{is_name}
 use Rattle.plain_form.specs.Texts.{same_bytes}
-use Rattle.plain_form.specs.Plain.{WrittenNumber, WrittenCell, WrittenPort, WrittenRow, Written, is_number, counts, count_of, rounded, over_num, over_den, means_number, means_amount, means_cell, means_cells, means_type, means_port, means_ports, means_row, means_rows, means, means_catalogue, are_some_distinct, port_names, row_names, IsPlain, IsQuery}
+use Rattle.plain_form.specs.Plain.{WrittenNumber, WrittenCell, WrittenPort, WrittenRow, Written, is_number, counts, count_of, rounded, over_num, over_den, means_number, means_amount, means_cell, means_cells, means_type, means_port, means_ports, means_row, means_rows, means, are_some_distinct, port_names, row_names, IsPlain, IsQuery}
 
 -- ---- ports of numbers
 

@@ -4,7 +4,7 @@ use Rattle.std.specs.List.{list_all, list_any, flat_map}
 use Rattle.std.specs.Ordering.{int_eq}
 use Rattle.std.specs.Str.{bytes_eq}
 use Rattle.unit_core.specs.declared.dim.Dim.{Dim}
-use Rattle.unit_core.specs.Measure.{Measure, one}
+use Rattle.unit_core.specs.Measure.{one}
 use Rattle.unit_core.specs.Ratio.{Ratio, quotient}
 use Rattle.unit_core.specs.Rounding.{ceiling, floor}
 use Rattle.unit_core.specs.UnitTable.{unit_named}

@@ -1,5 +1,5 @@
 -- Reading the plain form, as functions on lists: None where the bytes don't have it.
-use Rattle.std.specs.Prelude.{◌≡◌, ℕ, Bool, ◌&&◌, ◌==◌, not, cond, List, [], ◌∷◌, Option, Some, None, Result, Ok, Err, length, drop, map, codes}
+use Rattle.std.specs.Prelude.{◌≡◌, ℕ, ◌==◌, cond, List, [], ◌∷◌, Option, Some, None, Result, Ok, Err, length, drop, codes}
 use Rattle.std.specs.List.{slice_split}
 use Rattle.std.specs.Option.{option_or}
 use Rattle.std.specs.Str.{bytes_eq}

@@ -11,7 +11,9 @@ mod read;
 mod rounding;
 mod row;
 
+pub use bytes::before;
 pub use fault::ReadFault;
 pub use name::{is_name_text, is_recognised_name};
+pub use port::text_of;
 pub use read::{read_catalogue, read_query};
 pub use rounding::Rounding;

@@ -1,5 +1,5 @@
 use Rattle.std.proofs.Common.{◌≡◌, filter}
-use Rattle.design_cli.specs.Names.{is_recognised}
+use Rattle.plain_form.specs.Names.{is_recognised}
 use Rattle.design_cli.proofs.listing.recognised.Given as goal
 
 -- the names so far that are read

@@ -1,9 +1,0 @@
-use Rattle.std.proofs.Common.{rules, tests}
-use Rattle.std.proofs.lemmas.List.Sorted.{answers_always}
-use Rattle.design_cli.specs.PrintOrder.{row_cmp, is_before}
-use Rattle.design_cli.proofs.OrderLaws.{row_total, weak}
-use Rattle.design_cli.proofs.print_order.sort_rows.Goals as goal
-
-pub returns-clause-sorted : goal.returns-clause-sorted
-returns-clause-sorted c =
-    c.sort_unstable_by.ensures.sorted is_before (weak row_cmp row_total) (answers_always _ _ _ (λ f a r g k. search (rules, tests)))
