@@ -1,5 +1,5 @@
 -- The minimal rows of those that provide enough are the minima of the catalogue.
-use Rattle.std.proofs.Common.{◌≡◌, refl, subst, ℕ, zero, suc, Bool, true, false, ◌&&◌, IsTrue, List, [], ◌∷◌, map, filter, cond, slice_get, Option, Some, None, IsSomeAnd, inl, inr}
+use Rattle.std.proofs.Common.{◌≡◌, refl, subst, ℕ, zero, suc, Bool, true, false, IsTrue, List, [], ◌∷◌, map, filter, cond, slice_get, Option, Some, None, IsSomeAnd, inl, inr}
 use Rattle.std.specs.List.{list_all, list_any}
 use Rattle.order_core.specs.Members.{IsMember, first, second, both, all_elim, any_elim, any_intro}
 use Rattle.order_core.specs.Minimal.{IsMinimal}

@@ -2,5 +2,7 @@
 #![tactic(auto)]
 
 mod minimal;
+#[cfg(test)]
+mod tests;
 
 pub use minimal::minimal_rows;

@@ -1,10 +1,7 @@
-use Rattle.std.proofs.Common.{subst, List}
 use Rattle.order_core.specs.Members.{all_elim}
-use Rattle.value_type.specs.declared.value.Value.{Value}
 use Rattle.value_type.specs.Fits.{row_fits}
 use Rattle.value_type.specs.KindOrder.{row_laws}
 use Rattle.value_type.specs.Leq.{row_leq}
-use Rattle.catalogue_solve.specs.Enough.{AreSortedMinima}
 use Rattle.catalogue_solve.proofs.MinimaOf.{sorted_minima}
 use Rattle.catalogue_solve.proofs.Rising.{sorted_pairs}
 use Rattle.catalogue_solve.proofs.minimal.minima_of.Goals as goal

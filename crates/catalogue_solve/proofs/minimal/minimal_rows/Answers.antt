@@ -1,4 +1,4 @@
-use Rattle.std.proofs.Common.{◌≡◌, ◌∙◌, subst, List}
+use Rattle.std.proofs.Common.{◌≡◌, subst, List}
 use Rattle.value_type.specs.declared.value.Value.{Value}
 use Rattle.value_type.specs.Leq.{row_leq}
 use Rattle.value_type.specs.PortKinds.{port_kinds}

@@ -1,0 +1,227 @@
+ghost use Rattle.std.specs.Prelude.{◌≡◌, IsTrue};
+ghost use Rattle.std.specs.List.{list_all};
+ghost use Rattle.design_model.specs.Holds.{fits_ports, rows_fit};
+
+use self::Written::{El, Num, Top};
+use crate::minimal_rows;
+use design_model::{CatRow, Design};
+use order_core::{FiniteOrder, List, Text};
+use std::alloc::{AllocError, Global};
+use std::process::Abort;
+use std::test::Fail;
+use unit_core::Dim;
+use value_type::{Kind, Port, PortUnit, Poset, Row, Types, Value, ports_fit};
+
+fn text(alloc: Global, text: &str) -> Result<Text, AllocError> {
+    Ok(Text::of(String::from_str(alloc, text)?))
+}
+
+/// How a value is written in these tests.
+#[derive(Clone, Copy)]
+enum Written {
+    Num(u64),
+    Top,
+    El(u32),
+}
+
+fn value(written: Written) -> Value {
+    match written {
+        Written::Num(count) => Value::Num(count),
+        Written::Top => Value::Top,
+        Written::El(element) => Value::El(element),
+    }
+}
+
+fn row(alloc: Global, written: &[Written]) -> Result<Row, Fail> {
+    let mut values = Vec::new(alloc);
+    for one in written {
+        values.push(value(*one))?;
+    }
+    Ok(Row::of(alloc, List::of(values))?)
+}
+
+fn number_kind() -> Kind {
+    Kind::Num(Dim {
+        mass: 0,
+        length: 0,
+        time: 0,
+        current: 0,
+        money: 0,
+        bits: 0,
+    })
+}
+
+fn port(alloc: Global, name: &str, kind: Kind) -> Result<Port, Fail> {
+    Ok(Port {
+        name: text(alloc, name)?,
+        kind,
+        unit: PortUnit::Nat,
+    })
+}
+
+/// The grades 0 and 1 lie below 2 and below 3, and no other two are related.
+fn grades(alloc: Global) -> Result<Types, Fail> {
+    let poset = Poset {
+        name: text(alloc, "grade")?,
+        elements: List::of(vec![in alloc;
+            text(alloc, "a")?,
+            text(alloc, "b")?,
+            text(alloc, "d")?,
+            text(alloc, "e")?,
+        ]?),
+        order: FiniteOrder::close(alloc, 4, &[(0, 2), (0, 3), (1, 2), (1, 3)])?,
+    };
+    Ok(Types {
+        posets: List::of(vec![in alloc; poset]?),
+    })
+}
+
+/// A row of a catalogue: what it provides, and what it requires.
+type Line<'a> = (&'a [Written], &'a [Written]);
+
+/// A catalogue that provides a count and requires a count and a second value.
+fn catalogue(alloc: Global, second: Kind, lines: &[Line]) -> Result<Design, Fail> {
+    let mut rows = Vec::new(alloc);
+    for (provided, required) in lines {
+        rows.push(CatRow {
+            name: text(alloc, "r")?,
+            provided: row(alloc, *provided)?,
+            required: row(alloc, *required)?,
+        })?;
+    }
+    Ok(Design::Cat {
+        provides: List::of(vec![in alloc; port(alloc, "lift", number_kind())?]?),
+        requires_: List::of(vec![in alloc;
+            port(alloc, "mass", number_kind())?,
+            port(alloc, "second", second)?,
+        ]?),
+        rows: List::of(rows),
+    })
+}
+
+/// Whether each of the rows fits the ports.
+fn all_fit(types: &Types, provides: &[Port], requires_: &[Port], rows: &[CatRow]) -> bool
+    ensures { result ≡ list_all (fits_ports types.now provides.now requires_.now) rows.now }
+{
+    for row in rows {
+        if !ports_fit(types, provides, row.provided.values()) {
+            return false;
+        }
+        if !ports_fit(types, requires_, row.required.values()) {
+            return false;
+        }
+    }
+    true
+}
+
+/// Whether each row of the design fits its ports.
+fn rows_fit(types: &Types, design: &Design) -> bool
+    ensures { result ≡ rows_fit types.now design.now }
+{
+    match design {
+        Design::Cat {
+            provides,
+            requires_,
+            rows,
+        } => all_fit(types, provides.items(), requires_.items(), rows.items()),
+    }
+}
+
+fn is_same(value: &Value, written: Written) -> bool {
+    match (value, written) {
+        (Value::Num(a), Num(b)) => *a == b,
+        (Value::Top, Top) => true,
+        (Value::El(a), El(b)) => *a == b,
+        _ => false,
+    }
+}
+
+/// Whether these are the values that are written.
+fn are_same(values: &[Value], written: &[Written]) -> bool {
+    values.len() == written.len()
+        && values
+            .iter()
+            .zip(written)
+            .all(|(value, one)| is_same(value, *one))
+}
+
+/// The minimal rows for a functionality are these, in this order.
+fn expect_minima(
+    rt: &impl Abort,
+    alloc: Global,
+    types: &Types,
+    design: &Design,
+    (f, wants): (Written, &[[Written; 2]]),
+) -> Result<(), Fail> {
+    let f = row(alloc, &[f])?;
+    assert!(rt; rows_fit(types, design) && ports_fit(types, design.provides(), f.values()));
+    let found = minimal_rows(alloc, types, design, &f)?;
+    assert_eq!(rt; found.items().len(), wants.len());
+    for (found, want) in found.items().iter().zip(wants) {
+        assert!(rt; are_same(found.values(), want));
+    }
+    Ok(())
+}
+
+#[test]
+fn the_least_of_what_gives_enough(rt: HostRuntime) -> Result<(), Fail> {
+    let alloc = rt.alloc();
+    let lines: [Line; 4] = [
+        (&[Num(100)], &[Num(10), Num(5)]),
+        (&[Num(120)], &[Num(8), Num(7)]),
+        (&[Num(200)], &[Num(12), Num(7)]),
+        (&[Num(150)], &[Num(8), Num(7)]),
+    ];
+    let motors = catalogue(alloc, number_kind(), &lines)?;
+    let types = grades(alloc)?;
+    expect_minima(
+        &rt,
+        alloc,
+        &types,
+        &motors,
+        (Num(90), &[[Num(8), Num(7)], [Num(10), Num(5)]]),
+    )?;
+    expect_minima(&rt, alloc, &types, &motors, (Num(101), &[[Num(8), Num(7)]]))?;
+    expect_minima(
+        &rt,
+        alloc,
+        &types,
+        &motors,
+        (Num(200), &[[Num(12), Num(7)]]),
+    )?;
+    expect_minima(&rt, alloc, &types, &motors, (Num(201), &[]))?;
+    expect_minima(&rt, alloc, &types, &motors, (Top, &[]))
+}
+
+#[test]
+fn grades_that_are_not_compared_stay(rt: HostRuntime) -> Result<(), Fail> {
+    let alloc = rt.alloc();
+    let lines: [Line; 6] = [
+        (&[Num(1)], &[Num(10), El(1)]),
+        (&[Top], &[Num(12), El(2)]),
+        (&[Num(1)], &[Num(10), El(0)]),
+        (&[Num(2)], &[Num(9), El(3)]),
+        (&[Num(1)], &[Num(10), El(2)]),
+        (&[Num(2)], &[Top, El(0)]),
+    ];
+    let graded = catalogue(alloc, Kind::Fin(0), &lines)?;
+    let types = grades(alloc)?;
+    expect_minima(
+        &rt,
+        alloc,
+        &types,
+        &graded,
+        (
+            Num(1),
+            &[[Num(9), El(3)], [Num(10), El(0)], [Num(10), El(1)]],
+        ),
+    )?;
+    expect_minima(
+        &rt,
+        alloc,
+        &types,
+        &graded,
+        (Num(2), &[[Num(9), El(3)], [Num(12), El(2)], [Top, El(0)]]),
+    )?;
+    expect_minima(&rt, alloc, &types, &graded, (Top, &[[Num(12), El(2)]]))
+}
