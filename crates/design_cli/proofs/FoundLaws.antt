@@ -1,5 +1,5 @@
 -- The design that is found was written.
-use Rattle.std.proofs.Common.{◌≡◌, ◌∙◌, refl, sym, ap, subst, ℕ, ◌<◌, Bool, true, false, IsTrue, List, [], ◌∷◌, Option, Some, None, find, cond, inl, inr}
+use Rattle.std.proofs.Common.{◌≡◌, ◌∙◌, refl, sym, ap, subst, ℕ, Bool, true, false, IsTrue, List, [], ◌∷◌, Option, Some, None, find, cond, inl, inr}
 use Rattle.std.specs.Option.{option_map}
 use Rattle.design_world.specs.declared.world.Content.{Content}
 use Rattle.design_world.specs.declared.world.Content.TheVariants.{Whole, Longer}

@@ -26,7 +26,7 @@ use Rattle.design_cli.specs.Words.{Asked}
 use Rattle.design_cli.proofs.BridgeLaws.{found_once}
 use Rattle.plain_form.proofs.CatalogueLaws.{catalogue_back, query_back}
 use Rattle.design_cli.proofs.NameCounts.{before_or_same}
-use Rattle.plain_form.specs.Fitting.{HasNumberPorts, plain_ports}
+use Rattle.plain_form.specs.Fitting.{plain_ports}
 use Rattle.plain_form.specs.Texts.{bytes_same}
 
 -- What holds of the question holds of each question that the words ask.

@@ -1,5 +1,5 @@
 -- What `solve` answers.
-use Rattle.std.specs.Prelude.{◌≡◌, ◌⊎◌, ℕ, List, Option, Some, None, Result, Ok, Err, take, length, find}
+use Rattle.std.specs.Prelude.{◌≡◌, ◌⊎◌, ℕ, List, Option, Some, None, Result, Ok, Err, take, find}
 use Rattle.std.specs.Str.{bytes_eq}
 use Rattle.value_type.specs.declared.value.Value.{Value}
 use Rattle.design_world.specs.Bytes.{followed}

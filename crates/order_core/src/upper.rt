@@ -1,7 +1,7 @@
-ghost use Rattle.std.specs.Prelude.{◌≡◌, ◌∷◌, [], ℕ, IsTrue, IfOk};
+ghost use Rattle.std.specs.Prelude.{◌≡◌, ◌∷◌, [], ℕ, IsTrue, IfOk, length};
 ghost use Rattle.std.specs.List.{list_all};
 ghost use Rattle.order_core.specs.Finite.{is_element, is_below};
-ghost use Rattle.order_core.specs.Order.{are_incomparable, apart};
+ghost use Rattle.order_core.specs.Order.{are_incomparable, apart, IsLeast, AreBounds};
 ghost use Rattle.order_core.specs.Upper.{is_upper, is_in, upper_leq, rise_from};
 ghost use Rattle.order_core.specs.UpperLaws.{upper_laws};
 ghost use Rattle.order_core.specs.Word.{has};
@@ -42,7 +42,10 @@ impl<'a> Order for UpperOrder<'a> {
         }
     }
 
-    fn least(&self, alloc: Global) -> Result<List<List<u32>>, NoMemory> {
+    fn least(&self, alloc: Global) -> Result<List<List<u32>>, NoMemory>
+        ensures least { IfOk result (IsLeast (is_upper self.now.base.now.table) (upper_leq self.now.base.now.table)) }
+        ensures one { IfOk result (λ made. length made ≡ 1) }
+    {
         only(alloc, self.base.minimal(alloc, u64::MAX)?)
     }
 
@@ -51,7 +54,12 @@ impl<'a> Order for UpperOrder<'a> {
         alloc: Global,
         a: &List<u32>,
         b: &List<u32>,
-    ) -> Result<List<List<u32>>, NoMemory> {
+    ) -> Result<List<List<u32>>, NoMemory>
+        requires a_is_value { IsTrue (is_upper self.now.base.now.table a.now) }
+        requires b_is_value { IsTrue (is_upper self.now.base.now.table b.now) }
+        ensures bounds { IfOk result (AreBounds (is_upper self.now.base.now.table) (upper_leq self.now.base.now.table) a.now b.now) }
+        ensures one { IfOk result (λ made. length made ≡ 1) }
+    {
         let shared = upper_set(self.base, a.items()) & upper_set(self.base, b.items());
         only(alloc, self.base.minimal(alloc, shared)?)
     }

@@ -3,8 +3,8 @@ use Rattle.std.proofs.lemmas.Result.{IfOk-weaker}
 use Rattle.order_core.specs.MinimalLaws.{minimal_bounds_upper}
 use Rattle.order_core.proofs.upper.UpperOrderOrder.bounds.Goals as goal
 
-pub returns : goal.returns
-returns c =
+pub returns-clause-bounds : goal.returns-clause-bounds
+returns-clause-bounds c =
     let base = c.args.self.now.base.now in
     let bound = c.in_ok-minimal.field-0 in
     let a_set = rw c.items.ensures at c.upper_set.ensures in
