@@ -50,6 +50,43 @@ fn crossed(alloc: Global) -> Result<Types, Fail> {
     })
 }
 
+/// How a value is written in these tests.
+#[derive(Clone, Copy)]
+enum Written<'a> {
+    Num(u64),
+    Top,
+    El(u32),
+    /// A tuple of counts.
+    Counts(&'a [u64]),
+    Up(&'a [u32]),
+}
+
+fn value(alloc: Global, written: Written) -> Result<Value, AllocError> {
+    match written {
+        Written::Num(count) => Ok(Value::Num(count)),
+        Written::Top => Ok(Value::Top),
+        Written::El(element) => Ok(Value::El(element)),
+        Written::Counts(counts) => counts_tuple(alloc, counts),
+        Written::Up(members) => upper(alloc, members),
+    }
+}
+
+fn values(alloc: Global, written: &[Written]) -> Result<Vec<Value>, AllocError> {
+    let mut values = Vec::new(alloc);
+    for one in written {
+        values.push(value(alloc, *one)?)?;
+    }
+    Ok(values)
+}
+
+fn counts_tuple(alloc: Global, counts: &[u64]) -> Result<Value, AllocError> {
+    let mut values = Vec::new(alloc);
+    for count in counts {
+        values.push(Value::Num(*count))?;
+    }
+    Ok(Value::Tup(List::of(values)))
+}
+
 fn upper(alloc: Global, members: &[u32]) -> Result<Value, AllocError> {
     Ok(Value::Up(List::of(Vec::from_slice(alloc, members)?)))
 }

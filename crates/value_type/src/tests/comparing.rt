@@ -1,4 +1,4 @@
-use super::{MAX, NUMBERS, crossed, pair, pair_kind, upper};
+use super::{MAX, NUMBERS, Written, crossed, pair, pair_kind, upper, value};
 use crate::{Kind, Types, Value};
 use std::alloc::Global;
 use std::process::Abort;
@@ -17,56 +17,56 @@ fn expect_leq(
     assert_eq!(rt; found, want, "{a:?} and {b:?}");
 }
 
-#[test]
-fn numbers_compare_by_size(rt: HostRuntime) -> Result<(), Fail> {
-    let types = crossed(rt.alloc())?;
-    let cases = [
-        (Value::Num(3), Value::Num(5), (true, false)),
-        (Value::Num(5), Value::Num(5), (true, true)),
-        (Value::Num(MAX), Value::Top, (true, false)),
-        (Value::Top, Value::Top, (true, true)),
-    ];
-    for (a, b, want) in cases.iter() {
-        expect_leq(&rt, &types, &NUMBERS, (a, b), *want);
+/// Of each two, whether the first is at most the second, and the second at most the first.
+fn expect_order(
+    rt: &impl Abort,
+    alloc: Global,
+    kind: &Kind,
+    cases: &[(Written, Written, (bool, bool))],
+) -> Result<(), Fail> {
+    let types = crossed(alloc)?;
+    for (a, b, want) in cases {
+        let (a, b) = (value(alloc, *a)?, value(alloc, *b)?);
+        expect_leq(rt, &types, kind, (&a, &b), *want);
     }
     Ok(())
+}
+
+#[test]
+fn numbers_compare_by_size(rt: HostRuntime) -> Result<(), Fail> {
+    let cases = [
+        (Written::Num(3), Written::Num(5), (true, false)),
+        (Written::Num(5), Written::Num(5), (true, true)),
+        (Written::Num(MAX), Written::Top, (true, false)),
+        (Written::Top, Written::Top, (true, true)),
+    ];
+    expect_order(&rt, rt.alloc(), &NUMBERS, &cases)
 }
 
 #[test]
 fn elements_compare_as_their_poset_says(rt: HostRuntime) -> Result<(), Fail> {
-    let types = crossed(rt.alloc())?;
     let cases = [
-        (0, 0, (true, true)),
-        (0, 1, (false, false)),
-        (0, 2, (true, false)),
-        (1, 3, (true, false)),
-        (2, 3, (false, false)),
+        (Written::El(0), Written::El(0), (true, true)),
+        (Written::El(0), Written::El(1), (false, false)),
+        (Written::El(0), Written::El(2), (true, false)),
+        (Written::El(1), Written::El(3), (true, false)),
+        (Written::El(2), Written::El(3), (false, false)),
     ];
-    for (a, b, want) in cases {
-        let (a, b) = (Value::El(a), Value::El(b));
-        expect_leq(&rt, &types, &Kind::Fin(0), (&a, &b), want);
-    }
-    Ok(())
+    expect_order(&rt, rt.alloc(), &Kind::Fin(0), &cases)
 }
 
 #[test]
 fn the_greater_upper_set_is_the_smaller(rt: HostRuntime) -> Result<(), Fail> {
-    let alloc = rt.alloc();
-    let types = crossed(alloc)?;
-    let cases: [(&[u32], &[u32], (bool, bool)); 7] = [
-        (&[0, 1], &[], (true, false)),
-        (&[0, 1], &[0], (true, false)),
-        (&[0], &[2], (true, false)),
-        (&[0], &[2, 3], (true, false)),
-        (&[2, 3], &[2], (true, false)),
-        (&[0], &[1], (false, false)),
-        (&[], &[], (true, true)),
+    let cases = [
+        (Written::Up(&[0, 1]), Written::Up(&[]), (true, false)),
+        (Written::Up(&[0, 1]), Written::Up(&[0]), (true, false)),
+        (Written::Up(&[0]), Written::Up(&[2]), (true, false)),
+        (Written::Up(&[0]), Written::Up(&[2, 3]), (true, false)),
+        (Written::Up(&[2, 3]), Written::Up(&[2]), (true, false)),
+        (Written::Up(&[0]), Written::Up(&[1]), (false, false)),
+        (Written::Up(&[]), Written::Up(&[]), (true, true)),
     ];
-    for (a, b, want) in cases {
-        let (a, b) = (upper(alloc, a)?, upper(alloc, b)?);
-        expect_leq(&rt, &types, &Kind::Up(0), (&a, &b), want);
-    }
-    Ok(())
+    expect_order(&rt, rt.alloc(), &Kind::Up(0), &cases)
 }
 
 /// A number and an element, and an upper set beside them.

@@ -1,27 +1,24 @@
 use super::{NUMBERS, expect_values, pair, pair_kind, upper};
 use crate::{Kind, Row, Value};
 use order_core::List;
+use std::alloc::Global;
 use std::test::Fail;
+
+/// A count, a tuple of a tuple and an upper set, and an element.
+fn nested(alloc: Global) -> Result<Vec<Value>, Fail> {
+    let inner = pair(alloc, Value::Top, Value::El(3))?;
+    let outer = pair(alloc, inner, upper(alloc, &[2, 3])?)?;
+    Ok(vec![in alloc; Value::Num(7), outer, Value::El(1)]?)
+}
 
 #[test]
 fn copies_nested_values(rt: HostRuntime) -> Result<(), Fail> {
     let alloc = rt.alloc();
-    let inner = pair(alloc, Value::Top, Value::El(3))?;
-    let values = vec![in alloc;
-        Value::Num(7),
-        pair(alloc, inner, upper(alloc, &[2, 3])?)?,
-        Value::El(1),
-    ]?;
-    let row = Row::of(alloc, List::of(values))?;
+    let row = Row::of(alloc, List::of(nested(alloc)?))?;
     let copy = row.copy(alloc)?;
-    let inner = pair(alloc, Value::Top, Value::El(3))?;
-    let want = [
-        Value::Num(7),
-        pair(alloc, inner, upper(alloc, &[2, 3])?)?,
-        Value::El(1),
-    ];
-    expect_values(&rt, copy.values(), want.as_slice());
+    let want = nested(alloc)?;
     expect_values(&rt, row.values(), want.as_slice());
+    expect_values(&rt, copy.values(), want.as_slice());
     Ok(())
 }
 

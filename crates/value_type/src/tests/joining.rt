@@ -13,6 +13,15 @@ fn mixed(alloc: Global, types: &Types) -> Result<RowOrder, Fail> {
     })
 }
 
+/// A row of each of these: a count, an element and the members of an upper set.
+fn rows(alloc: Global, written: &[(u64, u32, &[u32])]) -> Result<Vec<Row>, Fail> {
+    let mut rows = Vec::new(alloc);
+    for (count, element, members) in written {
+        rows.push(row(alloc, *count, *element, *members)?)?;
+    }
+    Ok(rows)
+}
+
 fn row(alloc: Global, count: u64, element: u32, members: &[u32]) -> Result<Row, Fail> {
     let values = vec![in alloc;
         Value::Num(count),
@@ -47,7 +56,7 @@ fn least_rows(rt: HostRuntime) -> Result<(), Fail> {
     let alloc = rt.alloc();
     let types = crossed(alloc)?;
     let order = mixed(alloc, &types)?;
-    let want = [row(alloc, 0, 0, &[0, 1])?, row(alloc, 0, 1, &[0, 1])?];
+    let want = rows(alloc, &[(0, 0, &[0, 1]), (0, 1, &[0, 1])])?;
     expect_rows(&rt, order.least(alloc)?.items(), want.as_slice());
     Ok(())
 }
@@ -59,9 +68,15 @@ fn bounds_of_rows(rt: HostRuntime) -> Result<(), Fail> {
     let order = mixed(alloc, &types)?;
     let a = row(alloc, 3, 0, &[0])?;
     let b = row(alloc, 5, 1, &[1])?;
-    let want = [row(alloc, 5, 2, &[2, 3])?, row(alloc, 5, 3, &[2, 3])?];
-    expect_bounds(&rt, alloc, &order, (&a, &b), want.as_slice())?;
+    let want = rows(alloc, &[(5, 2, &[2, 3]), (5, 3, &[2, 3])])?;
+    expect_bounds(&rt, alloc, &order, (&a, &b), want.as_slice())
+}
 
+#[test]
+fn rows_without_bounds(rt: HostRuntime) -> Result<(), Fail> {
+    let alloc = rt.alloc();
+    let types = crossed(alloc)?;
+    let order = mixed(alloc, &types)?;
     let a = row(alloc, 5, 2, &[2, 3])?;
     let b = row(alloc, 5, 3, &[2, 3])?;
     expect_bounds(&rt, alloc, &order, (&a, &b), &[])
@@ -114,18 +129,5 @@ fn a_poset_that_is_not_there_has_no_values(rt: HostRuntime) -> Result<(), Fail> 
         };
         assert!(rt; order.least(alloc)?.items().is_empty());
     }
-    Ok(())
-}
-
-#[test]
-fn of_no_types_there_is_one_row(rt: HostRuntime) -> Result<(), Fail> {
-    let alloc = rt.alloc();
-    let types = crossed(alloc)?;
-    let order = RowOrder {
-        types: &types,
-        kinds: List::of(Vec::new(alloc)),
-    };
-    let empty = Row::of(alloc, List::of(Vec::new(alloc)))?;
-    expect_rows(&rt, order.least(alloc)?.items(), &[empty]);
     Ok(())
 }
