@@ -6,3 +6,6 @@ mod holding;
 
 pub use design::{CatRow, Design, Witness};
 pub use holding::holds;
+
+#[cfg(test)]
+mod tests;
