@@ -1,5 +1,5 @@
 -- When a design provides at least f and requires at most r.
-use Rattle.std.specs.Prelude.{ℕ, Bool, ◌&&◌, IsTrue, List, slice_get, IsSomeAnd}
+use Rattle.std.specs.Prelude.{Bool, ◌&&◌, IsTrue, List, slice_get, IsSomeAnd}
 use Rattle.std.specs.List.{list_all}
 use Rattle.value_type.specs.declared.port.Port.{Port}
 use Rattle.value_type.specs.declared.poset.Types.{Types}

@@ -1,5 +1,5 @@
 -- Which values a type has.
-use Rattle.std.specs.Prelude.{ℕ, Bool, true, false, nat_le, List, Option, Some, None, slice_get, map}
+use Rattle.std.specs.Prelude.{Bool, true, false, nat_le, List, Option, Some, slice_get, map}
 use Rattle.order_core.specs.Finite as finite
 use Rattle.order_core.specs.Tuple.{are_values}
 use Rattle.order_core.specs.Upper as upper

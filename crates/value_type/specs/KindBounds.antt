@@ -1,5 +1,5 @@
 -- Least values and bounds of a type, from those of the order that it is.
-use Rattle.std.specs.Prelude.{◌≡◌, Bool, true, false, ◌&&◌, IsTrue, List, [], ◌∷◌, Result, Ok, Err, IfOk, map}
+use Rattle.std.specs.Prelude.{◌≡◌, Bool, true, IsTrue, List, [], ◌∷◌, Result, Ok, Err, IfOk, map}
 use Rattle.std.specs.List.{list_all}
 use Rattle.std.proofs.Common.{refl, sym, subst}
 use Rattle.order_core.specs.Embedding.{IsEmbedding, embedded_least, embedded_bounds}

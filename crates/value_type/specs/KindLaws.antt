@@ -1,6 +1,6 @@
 -- What fits and leq are at each type. Each is an order that was there before, seen through a variant of Value.
-use Rattle.std.specs.Prelude.{◌≡◌, ℕ, Bool, IsTrue, List, Option, Some, None, slice_get, map}
-use Rattle.std.proofs.Common.{refl, sym, ap, subst, ◌∙◌}
+use Rattle.std.specs.Prelude.{◌≡◌, ℕ, IsTrue, List, Option, Some, slice_get, map}
+use Rattle.std.proofs.Common.{refl, sym, ap, ◌∙◌}
 use Rattle.order_core.specs.declared.num.Num.{Num as Number}
 use Rattle.order_core.specs.declared.num.Num.TheVariants as number
 use Rattle.order_core.specs.Embedding.{IsEmbedding}
@@ -9,7 +9,7 @@ use Rattle.order_core.specs.Num as numbers
 use Rattle.order_core.specs.Tuple.{are_values, tuple_leq}
 use Rattle.order_core.specs.Upper as upper
 use Rattle.unit_core.specs.declared.dim.Dim.{Dim}
-use Rattle.value_type.specs.declared.kind.Kind.{Kind, out-Kind}
+use Rattle.value_type.specs.declared.kind.Kind.{Kind}
 use Rattle.value_type.specs.declared.kind.Kind.TheFolds.{fold_out-Kind}
 use Rattle.value_type.specs.declared.kind.Kind.TheVariants as kind
 use Rattle.value_type.specs.declared.kind.Kind.TheVariants.{outs-Num, outs-Fin, outs-Prod, outs-Up}

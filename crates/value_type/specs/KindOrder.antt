@@ -6,7 +6,7 @@ use Rattle.order_core.specs.Embedding.{embedded_laws}
 use Rattle.order_core.specs.Finite as finite
 use Rattle.order_core.specs.Num as numbers
 use Rattle.order_core.specs.Order.{IsOrder}
-use Rattle.order_core.specs.Tuple.{are_values, tuple_leq, tuple_laws}
+use Rattle.order_core.specs.Tuple.{tuple_laws}
 use Rattle.order_core.specs.Upper as upper
 use Rattle.order_core.specs.UpperLaws.{upper_laws}
 use Rattle.value_type.specs.declared.kind.Kind.{Kind, roll-Kind, map-Kind}
@@ -15,7 +15,7 @@ use Rattle.value_type.specs.declared.kind.Kind.TheOpen.{Kind-F}
 use Rattle.value_type.specs.declared.kind.Kind.TheVariants as kind
 use Rattle.value_type.specs.declared.poset.Poset.{Poset}
 use Rattle.value_type.specs.declared.poset.Types.{Types}
-use Rattle.value_type.specs.declared.value.Value.{Value, out-Value}
+use Rattle.value_type.specs.declared.value.Value.{out-Value}
 use Rattle.value_type.specs.declared.value.Value.TheVariants as value
 use Rattle.value_type.specs.Fits.{fits, is_element, is_upper, row_fits}
 use Rattle.value_type.specs.Leq.{leq, row_leq}

@@ -1,5 +1,5 @@
 -- When a value is at most another one of its type.
-use Rattle.std.specs.Prelude.{ℕ, Bool, true, false, nat_le, List, Option, Some, None, slice_get, map}
+use Rattle.std.specs.Prelude.{Bool, true, false, nat_le, List, Option, Some, slice_get, map}
 use Rattle.order_core.specs.Finite as finite
 use Rattle.order_core.specs.Tuple.{tuple_leq}
 use Rattle.order_core.specs.Upper.{upper_leq}

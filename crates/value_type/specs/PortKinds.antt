@@ -1,5 +1,5 @@
 -- The types of ports.
-use Rattle.std.specs.Prelude.{◌≡◌, ◌≢◌, ℕ, Bool, false, IsTrue, List, length, map}
+use Rattle.std.specs.Prelude.{◌≡◌, ◌≢◌, false, IsTrue, List, length, map}
 use Rattle.std.proofs.Common.{sym, ◌∙◌}
 use Rattle.std.proofs.lemmas.List.{length-map}
 use Rattle.order_core.specs.Partners.{are_values_length, are_values_unequal}

@@ -1,5 +1,5 @@
 -- Ports whose unit has the form of their type.
-use Rattle.std.specs.Prelude.{ℕ, Bool, true, false, ◌&&◌, nat_le, List, map}
+use Rattle.std.specs.Prelude.{Bool, true, false, ◌&&◌, nat_le, List}
 use Rattle.order_core.specs.Tuple.{are_values}
 use Rattle.value_type.specs.declared.kind.Kind.{Kind}
 use Rattle.value_type.specs.declared.kind.Kind.TheFolds.{fold-Kind}

@@ -9,7 +9,7 @@ use Rattle.std.proofs.Common.{refl, sym, ap, subst, ◌∙◌, inl, inr, eqb-tru
 use Rattle.std.proofs.lemmas.Cmp.{nat_cmp_total, nat_list_cmp_total}
 use Rattle.std.proofs.lemmas.List.{drop_all, length-drop}
 use Rattle.std.proofs.lemmas.Map.Lookups.{exact_unsigned}
-use Rattle.value_type.specs.declared.value.Value.{Value, out-Value, roll-Value, roll-out-Value, out-roll-Value, map-Value}
+use Rattle.value_type.specs.declared.value.Value.{Value, out-Value, roll-Value, out-roll-Value, map-Value}
 use Rattle.value_type.specs.declared.value.Value.TheFolds.{fold_out-Value, ind-Value}
 use Rattle.value_type.specs.declared.value.Value.TheOpen.{Value-F}
 use Rattle.value_type.specs.declared.value.Value.TheVariants as value

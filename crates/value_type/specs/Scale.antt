@@ -1,5 +1,5 @@
 -- Scaling a number by a fraction, rounded up.
-use Rattle.std.specs.Prelude.{ℕ, ◌*◌, ◌==◌, cond}
+use Rattle.std.specs.Prelude.{◌*◌, ◌==◌, cond}
 use Rattle.order_core.specs.declared.num.Num.{Num}
 use Rattle.order_core.specs.declared.num.Num.TheVariants.{Count, Top}
 use Rattle.order_core.specs.Num.{count_or_top}

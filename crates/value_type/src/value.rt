@@ -16,6 +16,11 @@ pub enum Value {
 }
 
 impl Default for Value {
+    ghost use Rattle.std.specs.Prelude.{◌≡◌};
+    ghost use Rattle.value_type.specs.declared.value.Value.TheVariants.{Top};
+
+    ghost is_default = { λ value. value ≡ Top };
+
     fn default() -> Value {
         Value::Top
     }

@@ -1,4 +1,4 @@
-use Rattle.std.proofs.Common.{◌≡◌, ◌++◌, ◌∷◌, [], ◌<◌, length, sym, subst, rules, arith, IsTrue}
+use Rattle.std.proofs.Common.{◌≡◌, ◌++◌, ◌∷◌, [], ◌<◌, length, sym, rules, arith}
 use Rattle.std.specs.List.{list_all}
 use Rattle.order_core.specs.Finite as finite
 use Rattle.order_core.specs.Num as numbers

@@ -1,4 +1,4 @@
-use Rattle.std.proofs.Common.{◌≡◌, sym, ◌∙◌, arith}
+use Rattle.std.proofs.Common.{sym, ◌∙◌, arith}
 use Rattle.value_type.specs.PrintLaws.{value_cmp-Tup, shorter}
 use Rattle.value_type.proofs.print.+print.Goals as goal
 
