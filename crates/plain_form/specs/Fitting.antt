@@ -179,7 +179,7 @@ rows_in_place t ps qs (w ∷ ws) rows p q h =
 
 -- ---- whole catalogues and queries
 
--- Both sides have ports, all of numbers.
+-- All ports are of numbers, and there is a provided one.
 pub record HasNumberPorts (design : Design) : Type 0 where
   pub provides : IsTrue (list_all is_number_port (provided_ports design))
   pub requires_ : IsTrue (list_all is_number_port (required_ports design))

@@ -42,11 +42,13 @@ pub record WrittenPort : Type 0 where
   pub name : List ℕ
   pub unit : Option (List ℕ)
 
+-- a row's name, its cells for the provided ports, and those for the required ports
 pub record WrittenRow : Type 0 where
   pub name : List ℕ
   pub provided : List WrittenCell
   pub required : List WrittenCell
 
+-- the ports of both sides and the rows, in their order
 pub record Written : Type 0 where
   pub provides : List WrittenPort
   pub requires_ : List WrittenPort
@@ -79,12 +81,15 @@ abbrev pub type_text : Option (List ℕ) → List ℕ
 type_text None = codes "Nat"
 type_text (Some name) = name
 
+-- ` provides NAME [TYPE];` or ` requires NAME [TYPE];`
 abbrev pub port_text : List ℕ → WrittenPort → List ℕ
 port_text side port = codes " " ++ side ++ codes " " ++ port.name ++ codes " [" ++ type_text port.unit ++ codes "];"
 
+-- ` row NAME: CELLS -> CELLS;`
 abbrev pub row_text : WrittenRow → List ℕ
 row_text row = codes " row " ++ row.name ++ codes ": " ++ cells row.provided ++ codes " -> " ++ cells row.required ++ codes ";"
 
+-- the provided ports, the required ports and the rows between braces
 abbrev pub catalogue_text : Written → List ℕ
 catalogue_text w =
     codes "catalogue {" ++ flat_map (port_text (codes "provides")) w.provides ++ flat_map (port_text (codes "requires")) w.requires_
@@ -104,7 +109,7 @@ abbrev pub is_point : Option (List ℕ) → Bool
 is_point None = true
 is_point (Some decimals) = not (length decimals == 0) && nat_le (length decimals) 6
 
--- at least one digit before the point, and at most 19 in all
+-- digits alone: at least one before the point, and at most 19 in all
 abbrev pub is_number : WrittenNumber → Bool
 is_number n = not (length n.whole == 0) && (is_point n.decimals && (nat_le (length (digits_of n)) 19 && list_all is_digit (digits_of n)))
 
@@ -112,7 +117,7 @@ is_number n = not (length n.whole == 0) && (is_point n.decimals && (nat_le (leng
 abbrev pub value_of : List ℕ → ℕ
 value_of digits = fold (λ value digit. value * 10 + (digit - 48)) 0 digits
 
--- Of so many units of the size num / den, a number is over_num / over_den grid counts.
+-- A number of units, each of that many grid counts, is over_num / over_den grid counts.
 abbrev pub over_num : WrittenNumber → Ratio → ℕ
 over_num n size = value_of (digits_of n) * size.num
 
@@ -124,11 +129,11 @@ abbrev pub rounded : Rounding → ℕ → ℕ → ℕ
 rounded Up a d = ceiling a d
 rounded Down a d = floor a d
 
--- the whole count, if the fraction is in range
+-- the fraction rounded to a whole count, if both its parts are in range in lowest terms
 abbrev pub count_of : Rounding → ℕ → ℕ → Option Value
 count_of rounding a d = cond (is_ok (quotient a d)) (Some (value.Num (rounded rounding a d))) None
 
--- the grid counts that a number of units means
+-- the grid counts that a number of units of this size means, as a whole count
 abbrev pub means_number : Rounding → WrittenNumber → Ratio → Option Value
 means_number rounding n size = cond (is_number n) (count_of rounding (over_num n size) (over_den n size)) None
 
@@ -183,7 +188,7 @@ abbrev pub means_rows : List Port → List Port → List WrittenRow → Option (
 means_rows provides requires_ [] = Some []
 means_rows provides requires_ (w ∷ ws) = means_row provides requires_ w >>= λ row. means_rows provides requires_ ws >>= λ rows. Some (row ∷ rows)
 
--- no text is one of those before it
+-- Each text is new: it is none of those before it.
 abbrev pub are_new : List (List ℕ) → List (List ℕ) → Bool
 are_new before [] = true
 are_new before (text ∷ more) = not (list_any (λ other. bytes_eq other text) before) && are_new (text ∷ before) more

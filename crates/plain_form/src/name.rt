@@ -70,7 +70,7 @@ fn is_reserved(bytes: &[u8]) -> bool
     is_one_of(&RESERVED_WORDS, bytes)
 }
 
-/// Whether the bytes are a name.
+/// Whether the bytes are a name: a letter or `_`, then letters, digits and `_`, at most 64 bytes, and no reserved word.
 pub fn is_name_text(bytes: &[u8]) -> bool
     ensures { result ≡ is_name bytes.now }
 {
@@ -95,7 +95,7 @@ fn has_one_of(extensions: &[&str], bytes: &[u8]) -> bool
         .any(|extension| has_extension(extension.as_bytes(), bytes))
 }
 
-/// Whether a file of this name is read.
+/// Whether a file of this name is read: it is a name and one of the five extensions.
 #[tactic(auto, unfolding(crate::specs::Names::extensions))]
 pub fn is_recognised_name(name: &str) -> bool
     ensures { result ≡ is_recognised name.now }

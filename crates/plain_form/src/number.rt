@@ -46,7 +46,7 @@ impl<'a> NumberText<'a> {
         }
     }
 
-    /// Whether it is one: at least one digit before the point, 1 to 6 behind it, and at most 19 in all.
+    /// Whether it is one: at least one digit before the point, 1 to 6 behind it where there is a point, and at most 19 in all.
     fn is_number(&self) -> bool
         ensures { result ≡ is_number (written self.now) }
     {
@@ -75,7 +75,7 @@ impl<'a> NumberText<'a> {
         extended(extended(0, self.whole), self.decimals_bytes())
     }
 
-    /// The grid counts that so many units of the size mean.
+    /// The grid counts that so many units of the size mean, as a whole count. It is `NotPlain` where this is no number, or out of range.
     pub fn count(&self, rounding: Rounding, size: Fraction) -> Result<Value, ReadFault>
         ensures { Finds (λ value. value) result (means_number rounding (written self.now) (ratio size)) }
     {

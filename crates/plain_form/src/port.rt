@@ -13,7 +13,7 @@ use std::alloc::Global;
 use unit_core::Dim;
 use value_type::{Kind, Port, PortUnit};
 
-/// What a plain number counts.
+/// The dimension of plain numbers.
 const NO_DIMENSION: Dim = Dim {
     mass: 0,
     length: 0,

@@ -150,7 +150,9 @@ fn catalogue_of(alloc: Global, bytes: &[u8]) -> Result<Design, ReadFault>
     catalogue_of_statements(alloc, &statements)
 }
 
-/// The catalogue that the bytes of a file write.
+/// The catalogue that the bytes of a file write. Its values are in grid counts.
+///
+/// It is `NotPlain` exactly where they write none, unless memory was refused.
 pub fn read_catalogue(alloc: Global, bytes: &[u8]) -> Result<Design, ReadFault>
     ensures plain { IfOk result (λ design. IsPlain bytes.now design) }
     ensures not_plain { IsErrOf result ReadFault.NotPlain → (design : Design) → IsPlain bytes.now design → ⊥ }
@@ -166,7 +168,9 @@ fn query_of(alloc: Global, ports: &[Port], text: &str) -> Result<Row, ReadFault>
     cells_of(alloc, Rounding::Up, ports, spaced.as_bytes())
 }
 
-/// The values that a query writes, one for each port, rounded up.
+/// The values that a query writes, one for each port, in grid counts that are rounded up.
+///
+/// It is `NotPlain` exactly where the text writes none, unless memory was refused.
 pub fn read_query(alloc: Global, ports: &[Port], text: &str) -> Result<Row, ReadFault>
     requires { 0 < length ports.now }
     ensures values { IfOk result (λ values. IsQuery text.now ports.now values) }
