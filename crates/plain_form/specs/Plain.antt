@@ -159,7 +159,10 @@ means_cell rounding port c = means_amount rounding port.kind (out-PortUnit port.
 -- one cell for each port
 abbrev pub means_cells : Rounding → List Port → List WrittenCell → Option (List Value)
 means_cells rounding [] [] = Some []
-means_cells rounding (port ∷ ports) (c ∷ cs) = means_cell rounding port c >>= λ v. means_cells rounding ports cs >>= λ vs. Some (v ∷ vs)
+means_cells rounding (port ∷ ports) (c ∷ cs) = do
+  v ← means_cell rounding port c
+  vs ← means_cells rounding ports cs
+  Some (v ∷ vs)
 means_cells _ _ _ = None
 
 -- a port that counts units of this dimension
@@ -176,17 +179,24 @@ means_port w = cond (is_name w.name) (means_type w.name w.unit) None
 
 abbrev pub means_ports : List WrittenPort → Option (List Port)
 means_ports [] = Some []
-means_ports (w ∷ ws) = means_port w >>= λ port. means_ports ws >>= λ ports. Some (port ∷ ports)
+means_ports (w ∷ ws) = do
+  port ← means_port w
+  ports ← means_ports ws
+  Some (port ∷ ports)
 
 -- Provided numbers are rounded down, and required ones up.
 abbrev pub means_row : List Port → List Port → WrittenRow → Option CatRow
-means_row provides requires_ w =
-    means_cells Down provides w.provided >>= λ provided. means_cells Up requires_ w.required
-    >>= λ required. cond (is_name w.name) (Some (record { name = w.name; provided = provided; required = required })) None
+means_row provides requires_ w = do
+  provided ← means_cells Down provides w.provided
+  required ← means_cells Up requires_ w.required
+  cond (is_name w.name) (Some (record { name = w.name; provided = provided; required = required })) None
 
 abbrev pub means_rows : List Port → List Port → List WrittenRow → Option (List CatRow)
 means_rows provides requires_ [] = Some []
-means_rows provides requires_ (w ∷ ws) = means_row provides requires_ w >>= λ row. means_rows provides requires_ ws >>= λ rows. Some (row ∷ rows)
+means_rows provides requires_ (w ∷ ws) = do
+  row ← means_row provides requires_ w
+  rows ← means_rows provides requires_ ws
+  Some (row ∷ rows)
 
 -- Each text is new: it is none of those before it.
 abbrev pub are_new : List (List ℕ) → List (List ℕ) → Bool
@@ -207,7 +217,7 @@ port_names ports = map (λ port. port.name) ports
 abbrev pub row_names : List CatRow → List (List ℕ)
 row_names rows = map (λ row. row.name) rows
 
--- a catalogue of these, if each has one at least, and their names differ
+-- a catalogue of these, if there is at least one of each, and no two provided ports, required ports or rows have the same name
 abbrev pub means_catalogue : List Port → List Port → List CatRow → Option Design
 means_catalogue provides requires_ rows =
     cond (are_some_distinct (port_names provides) && (are_some_distinct (port_names requires_) && are_some_distinct (row_names rows)))
@@ -215,9 +225,11 @@ means_catalogue provides requires_ rows =
 
 -- the design that is meant, if everything that is written has a meaning
 abbrev pub means : Written → Option Design
-means w =
-    means_ports w.provides >>= λ provides. means_ports w.requires_ >>= λ requires_. means_rows provides requires_ w.rows
-    >>= λ rows. means_catalogue provides requires_ rows
+means w = do
+  provides ← means_ports w.provides
+  requires_ ← means_ports w.requires_
+  rows ← means_rows provides requires_ w.rows
+  means_catalogue provides requires_ rows
 
 -- The bytes write the design, with at most one line feed at the end.
 pub record IsPlain (bytes : List ℕ) (design : Design) : Type 0 where

@@ -57,13 +57,13 @@ amount_at _ _ _ _ = None
 unfoldable pub cell_at : Rounding → Port → List ℕ → Option Value
 cell_at rounding port piece = after_text (codes " ") piece >>= amount_at rounding port.kind (out-PortUnit port.unit)
 
--- one cell for each port
+-- one cell for each port, each after a space
 abbrev pub each_cell : Rounding → List Port → List (List ℕ) → Option (List Value)
 each_cell rounding [] [] = Some []
 each_cell rounding (port ∷ ports) (piece ∷ pieces) = cell_at rounding port piece >>= λ v. each_cell rounding ports pieces >>= λ vs. Some (v ∷ vs)
 each_cell _ _ _ = None
 
--- one cell for each port, with commas between them
+-- one cell for each port, each after a space, with commas between them
 abbrev pub cells_at : Rounding → List Port → List ℕ → Option (List Value)
 cells_at rounding ports text = each_cell rounding ports (slice_split (λ b. b == 44) text)
 

@@ -9,7 +9,7 @@ use order_core::NoMemory;
 use std::alloc::{AllocError, Global};
 use std::collections::HashSet;
 
-/// What stands after the text, where the bytes begin with it.
+/// What stands after the text, where the bytes begin with it, else `NotPlain`.
 pub fn after<'a>(text: &[u8], bytes: &'a [u8]) -> Result<&'a [u8], ReadFault>
     ensures { Finds (λ rest. rest.now) result (after_text text.now bytes.now) }
 {
@@ -19,7 +19,7 @@ pub fn after<'a>(text: &[u8], bytes: &'a [u8]) -> Result<&'a [u8], ReadFault>
     }
 }
 
-/// What stands before the text, where the bytes end with it.
+/// What stands before the text, where the bytes end with it, else `NotPlain`.
 pub fn before<'a>(text: &[u8], bytes: &'a [u8]) -> Result<&'a [u8], ReadFault>
     ensures { Finds (λ front. front.now) result (before_text text.now bytes.now) }
 {
@@ -36,7 +36,7 @@ pub fn is_within(len: usize, bytes: &[u8]) -> bool
     bytes.len() <= len
 }
 
-/// What stands before and after the first such byte.
+/// What stands before and after the first such byte, if there is one, else `NotPlain`.
 pub fn cut(byte: u8, bytes: &[u8]) -> Result<(&[u8], &[u8]), ReadFault>
     ensures { Finds (λ parts. (parts.0.now, parts.1.now)) result (cut_at byte bytes.now) }
 {
