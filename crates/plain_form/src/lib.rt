@@ -4,6 +4,7 @@
 mod bytes;
 mod cells;
 mod fault;
+mod laws;
 mod name;
 mod number;
 mod port;
@@ -13,6 +14,7 @@ mod row;
 
 pub use bytes::before;
 pub use fault::ReadFault;
+pub use laws::meaning_is_unique;
 pub use name::{is_name_text, is_recognised_name};
 pub use port::text_of;
 pub use read::{read_catalogue, read_query};
