@@ -1,3 +1,5 @@
+pub mod ChainLaws
+pub mod Chains
 pub mod Closing
 pub mod Descent
 pub mod Embedding

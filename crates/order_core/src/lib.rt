@@ -1,6 +1,7 @@
 //! Lists, texts, numbers, and orders on values.
 #![tactic(auto)]
 
+mod boxed;
 mod choices;
 mod closing;
 mod finite;
@@ -14,6 +15,7 @@ mod tuple;
 mod upper;
 mod word;
 
+pub use boxed::Boxed;
 pub use choices::{Copier, copied, product_of};
 pub use finite::{FiniteOrder, OrderFault};
 pub use list::List;

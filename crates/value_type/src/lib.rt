@@ -18,7 +18,7 @@ mod value;
 mod wrap;
 
 pub use kind::Kind;
-pub use laws::{print_orders_are_total, values_are_in_order};
+pub use laws::{print_orders_are_total, scaling_is_exact, values_are_in_order};
 pub use order::RowOrder;
 pub use port::{Port, PortUnit, kinds_of, ports_fit, ports_leq};
 pub use poset::{Poset, Types};

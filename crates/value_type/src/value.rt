@@ -1,4 +1,8 @@
-use order_core::List;
+ghost use Rattle.std.specs.Prelude.{◌≡◌, IfOk};
+
+use crate::copy::copy_value;
+use order_core::{List, NoMemory};
+use std::alloc::Global;
 
 /// A value of some type.
 #[derive(Debug, Drop)]
@@ -15,8 +19,16 @@ pub enum Value {
     Up(List<u32>),
 }
 
+impl Value {
+    /// A value equal to this one.
+    pub fn copy(&self, alloc: Global) -> Result<Value, NoMemory>
+        ensures { IfOk result (λ made. made ≡ self.now) }
+    {
+        copy_value(alloc, self)
+    }
+}
+
 impl Default for Value {
-    ghost use Rattle.std.specs.Prelude.{◌≡◌};
     ghost use Rattle.value_type.specs.declared.value.Value.TheVariants.{Top};
 
     ghost is_default = { λ value. value ≡ Top };

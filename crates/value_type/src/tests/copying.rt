@@ -1,7 +1,8 @@
 use super::{NUMBERS, expect_values, pair, pair_kind, upper};
-use crate::{Kind, Row, Value};
+use crate::{Kind, Row, Value, print_order};
 use order_core::List;
 use std::alloc::Global;
+use std::cmp::Ordering;
 use std::test::Fail;
 
 /// A count, a tuple of a tuple and an upper set, and an element.
@@ -19,6 +20,10 @@ fn copies_nested_values(rt: HostRuntime) -> Result<(), Fail> {
     let want = nested(alloc)?;
     expect_values(&rt, row.values(), want.as_slice());
     expect_values(&rt, copy.values(), want.as_slice());
+    for value in row.values() {
+        let copy = value.copy(alloc)?;
+        assert!(rt; print_order(&copy, value) == Ordering::Equal);
+    }
     Ok(())
 }
 
