@@ -1,8 +1,7 @@
 -- What holds of the ends of chains.
 use Rattle.std.specs.Prelude.{◌≡◌, ◌+◌, ℕ, zero, suc, Bool, IsTrue}
-use Rattle.std.proofs.Common.{sym, subst, arith}
+use Rattle.std.proofs.Common.{subst, arith}
 use Rattle.order_core.specs.Chains.{IsMonotone, EndsChain, IsLeastEnd, IsSteady}
-use Rattle.order_core.specs.Minimal.{IsMinimal}
 use Rattle.order_core.specs.Order.{IsOrder}
 
 module _ {A : Type 0} (is_state : A → Bool) (leq : A → A → Bool) (Step : A → A → Type 0) (order : IsOrder is_state leq) (monotone : IsMonotone is_state leq Step) where
@@ -29,6 +28,11 @@ module _ {A : Type 0} (is_state : A → Bool) (leq : A → A → Bool) (Step : A
   -- An end that steps to itself ends longer chains.
   pub stays : (k : ℕ) (s : A) → EndsChain is_state leq Step k s → Step s s → EndsChain is_state leq Step (suc k) s
   stays k s h step = (s, h, order.reflexive s (ends_are_states k s h), step)
+
+  -- A state that steps to itself ends a chain of any number of steps.
+  pub stands_still : (k : ℕ) (s : A) → IsTrue (is_state s) → Step s s → EndsChain is_state leq Step k s
+  stands_still zero s v step = v
+  stands_still (suc k) s v step = stays k s (stands_still k s v step) step
 
   pub stays_least : (k : ℕ) (s : A) → IsLeastEnd is_state leq Step k s → Step s s → IsLeastEnd is_state leq Step (suc k) s
   stays_least k s h step = record { element = stays k s h.element step; least = λ y e. h.least y (ends_fall k y e) }
@@ -57,3 +61,9 @@ module _ {A : Type 0} (is_state : A → Bool) (leq : A → A → Bool) (Step : A
   steady_for_ever zero k s steady h = subst (λ (n : ℕ). EndsChain is_state leq Step n s) (none_more k) h
   steady_for_ever (suc more) k s steady h =
       subst (λ (n : ℕ). EndsChain is_state leq Step n s) (one_more more k) (steady_later more k steady s (steady_for_ever more k s steady h))
+
+-- Where each step of one kind is one of another, so is each chain.
+pub chain_mapped : {A : Type 0} (is_state : A → Bool) (leq : A → A → Bool) (Step Other : A → A → Type 0)
+    → ((x y : A) → Step x y → Other x y) → (k : ℕ) (s : A) → EndsChain is_state leq Step k s → EndsChain is_state leq Other k s
+chain_mapped is_state leq Step Other f zero s h = h
+chain_mapped is_state leq Step Other f (suc k) s h = (h.0, chain_mapped is_state leq Step Other f k h.0 h.1, h.2, f h.0 s h.3)

@@ -1,5 +1,5 @@
 -- An order seen through a function: what holds in the one order holds in the other.
-use Rattle.std.specs.Prelude.{◌≡◌, Bool, ◌&&◌, not, IsTrue, List, [], ◌∷◌, map}
+use Rattle.std.specs.Prelude.{◌≡◌, Bool, ◌&&◌, IsTrue, List, [], ◌∷◌, map}
 use Rattle.std.specs.List.{list_all, list_any}
 use Rattle.std.proofs.Common.{refl, sym, ap, subst, ◌∙◌}
 use Rattle.order_core.specs.Members.{IsMember, first, second, both, any_elim, any_intro, all_elim, all_intro, mem-map, map-mem}

@@ -16,6 +16,7 @@ pub mod NumLaws
 pub mod Order
 pub mod Partners
 pub mod Permuted
+pub mod Pointwise
 pub mod Products
 pub mod TotalOrders
 pub mod Tuple

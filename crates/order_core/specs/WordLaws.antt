@@ -1,10 +1,12 @@
 -- Words as sets: what has the numbers of joined and met words, and which numbers are listed.
-use Rattle.std.proofs.Common.{◌≡◌, ◌≢◌, ◌<◌, ◌≤◌, w64, ◌+◌, ◌-◌, ◌*◌, ◌%◌, ◌^◌, ℕ, zero, suc, Bool, true, false, ◌&&◌, ◌||◌, not, IsTrue, List, [], ◌∷◌, ◌++◌, cond, refl, sym, subst, arith, ◌⊎◌, inl, inr}
+use Rattle.std.proofs.Common.{◌≡◌, ◌≢◌, ◌<◌, ◌≤◌, w64, ◌+◌, ◌-◌, ◌*◌, ◌/◌, ◌%◌, ◌^◌, ℕ, zero, suc, Bool, true, false, ◌&&◌, ◌||◌, not, IsTrue, List, [], ◌∷◌, ◌++◌, cond, refl, sym, subst, arith, ◌⊎◌, inl, inr}
 use Rattle.std.specs.Int.{bit_not}
 use Rattle.std.specs.Int.Bits.{bit_and, bit_or}
 use Rattle.std.proofs.lemmas.Bool.Decides.{nat_tests}
 use Rattle.std.proofs.lemmas.Bool.{le-leb, cases_lt}
-use Rattle.std.specs.Prelude.{nat_le}
+use Rattle.std.specs.Prelude.{nat_le, None, slice_get, slice_index}
+use Rattle.std.proofs.Math.Nat.{div-eq_of_lt}
+use Rattle.std.proofs.Math.Pow.{pow_mono}
 use mir.Val.{bits}
 use Rattle.std.proofs.lemmas.Nat.Bits.{bit_at-lt, bit_at-zero, bit_at_or, bit_at_and, bit_at-pow_same, bit_at-pow_other, bit_at_ones, bit_at_not, bit_at_clear_same, bit_at_clear_other}
 use Rattle.order_core.specs.Members.{IsMember, first, second, both, mem-left, mem-right, mem-split}
@@ -13,6 +15,19 @@ use Rattle.order_core.specs.Word.{has, members_below}
 
 pub has_none : (x : ℕ) → has 0 x ≡ false
 has_none x = rw bit_at-zero refl
+
+pub no_word : (words : List ℕ) (i x : ℕ) → None ≡ slice_get words i → has (slice_index words i) x ≡ false
+no_word [] i x e = has_none x
+no_word (w ∷ words) zero x e = absurd (cc)
+no_word (w ∷ words) (suc i) x e = no_word words i x e
+
+-- A word has no number from 64 on.
+pub has_beyond : (word x : ℕ) → word < 2 ^ 64 → 64 ≤ x → has word x ≡ false
+has_beyond word x w l =
+    let powers : 2 ^ 64 ≤ 2 ^ x = pow_mono l in
+    let small : word < 2 ^ x = omega arith in
+    let none : word / 2 ^ x ≡ 0 = div-eq_of_lt small in
+    rw none refl
 
 pub has_or : (a b x : ℕ) → has (bit_or a b) x ≡ has a x || has b x
 has_or a b x =

@@ -59,6 +59,16 @@ impl FiniteOrder {
         self.table.items().len() as u32
     }
 
+    /// Whether `a` is at most `b`. No number is at most one that is no element, or the other way round.
+    pub fn is_below(&self, a: u32, b: u32) -> bool
+        ensures { result ≡ is_below self.now.table a b }
+    {
+        match self.table.get(a as usize) {
+            Some(row) => has(*row, b),
+            None => false,
+        }
+    }
+
     /// The elements that the element is at most, as a word.
     pub(crate) fn row(&self, element: u32) -> u64
         requires { IsTrue (is_element self.now.table element) }
@@ -87,7 +97,7 @@ impl Order for FiniteOrder {
     }
 
     fn leq(&self, a: &u32, b: &u32) -> bool {
-        has(self.row(*a), *b)
+        self.is_below(*a, *b)
     }
 
     fn copy(&self, _alloc: Global, a: &u32) -> Result<u32, NoMemory> {

@@ -19,6 +19,15 @@ pub struct UpperOrder<'a> {
     pub base: &'a FiniteOrder,
 }
 
+impl<'a> UpperOrder<'a> {
+    /// Whether each member of `b` lies above a member of `a`.
+    pub fn is_below(&self, a: &List<u32>, b: &List<u32>) -> bool
+        ensures { result ≡ upper_leq self.now.base.now.table a.now b.now }
+    {
+        contains_all(self.base, a.items(), b.items())
+    }
+}
+
 impl<'a> Order for UpperOrder<'a> {
     type Item = List<u32>;
 
@@ -32,7 +41,7 @@ impl<'a> Order for UpperOrder<'a> {
     }
 
     fn leq(&self, a: &List<u32>, b: &List<u32>) -> bool {
-        contains_all(self.base, a.items(), b.items())
+        self.is_below(a, b)
     }
 
     fn copy(&self, alloc: Global, a: &List<u32>) -> Result<List<u32>, NoMemory> {
@@ -123,8 +132,6 @@ fn is_apart(base: &FiniteOrder, element: u32, others: &[u32]) -> bool
 
 /// Whether each of the elements is in the upper set of the members.
 fn contains_all(base: &FiniteOrder, members: &[u32], elements: &[u32]) -> bool
-    requires members_are_values { IsTrue (list_all (is_element base.now.table) members.now) }
-    requires elements_are_values { IsTrue (list_all (is_element base.now.table) elements.now) }
     ensures { result ≡ list_all (is_in base.now.table members.now) elements.now }
 {
     for element in elements {
@@ -137,12 +144,10 @@ fn contains_all(base: &FiniteOrder, members: &[u32], elements: &[u32]) -> bool
 
 /// Whether the element is in the upper set of the members.
 fn contains(base: &FiniteOrder, members: &[u32], element: u32) -> bool
-    requires members_are_values { IsTrue (list_all (is_element base.now.table) members.now) }
-    requires element_is_value { IsTrue (is_element base.now.table element) }
     ensures { result ≡ is_in base.now.table members.now element }
 {
     for member in members {
-        if base.leq(member, &element) {
+        if base.is_below(*member, element) {
             return true;
         }
     }

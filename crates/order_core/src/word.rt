@@ -7,10 +7,9 @@ use std::alloc::Global;
 
 /// Whether the number is in the set that the word holds.
 pub fn has(word: u64, number: u32) -> bool
-    requires { number < 64 }
     ensures { result ≡ has word number }
 {
-    (word >> number) & 1 == 1
+    number < 64 && (word >> number) & 1 == 1
 }
 
 /// The numbers below `n` in the set that the word holds, in rising order.

@@ -9,3 +9,4 @@ pub mod Ports
 pub mod PrintLaws
 pub mod PrintOrder
 pub mod Scale
+pub mod ScaleLaws

@@ -1,20 +1,17 @@
-ghost use Rattle.std.specs.Prelude.{◌≡◌, IsTrue, map};
+ghost use Rattle.std.specs.Prelude.{◌≡◌, map};
 ghost use Rattle.std.specs.Option.{option_copied};
 ghost use Rattle.order_core.specs.Tuple.{tuple_leq};
-ghost use Rattle.value_type.specs.Fits as fit;
 ghost use Rattle.value_type.specs.Leq as spec;
 ghost use Rattle.value_type.specs.declared.value.Value.{out-Value};
 
 use crate::kind::Kind;
 use crate::poset::{Poset, Types};
 use crate::value::Value;
-use order_core::{Order, UpperOrder};
+use order_core::UpperOrder;
 
-/// Whether `a` is at most `b`, both values of this type.
+/// Whether `a` is at most `b` as values of this type.
 #[cycle(leq)]
 pub fn leq(types: &Types, kind: &Kind, a: &Value, b: &Value) -> bool
-    requires a_fits { IsTrue (fit.fits types.now kind.now a.now) }
-    requires b_fits { IsTrue (fit.fits types.now kind.now b.now) }
     ensures { result ≡ spec.leq types.now kind.now a.now b.now }
 {
     match kind {
@@ -31,14 +28,18 @@ pub fn leq(types: &Types, kind: &Kind, a: &Value, b: &Value) -> bool
     }
 }
 
-/// Whether each of the first values is at most its partner.
+/// Whether there are two values for each type, and each of the first is at most its partner.
 #[cycle(leq)]
-#[tactic(auto, using(order_core::specs::Partners::are_values_length))]
+#[tactic(auto, using(order_core::specs::Partners::unequal_lower, order_core::specs::Partners::unequal_upper))]
 pub fn leq_all(types: &Types, kinds: &[Kind], xs: &[Value], ys: &[Value]) -> bool
-    requires xs_fit { IsTrue (fit.row_fits types.now kinds.now xs.now) }
-    requires ys_fit { IsTrue (fit.row_fits types.now kinds.now ys.now) }
     ensures { result ≡ spec.row_leq types.now kinds.now xs.now ys.now }
 {
+    if kinds.len() != xs.len() {
+        return false;
+    }
+    if kinds.len() != ys.len() {
+        return false;
+    }
     for (at, kind) in kinds.iter().enumerate() {
         if !leq(types, kind, &xs[at], &ys[at]) {
             return false;
@@ -65,15 +66,13 @@ fn number_leq(a: &Value, b: &Value) -> bool
 }
 
 fn element_leq(poset: Option<&Poset>, a: &Value, b: &Value) -> bool
-    requires a_fits { IsTrue (fit.is_element (option_copied poset) (out-Value a.now)) }
-    requires b_fits { IsTrue (fit.is_element (option_copied poset) (out-Value b.now)) }
     ensures { result ≡ spec.element_leq (option_copied poset.entry) (out-Value a.now) (out-Value b.now) }
 {
     match poset {
         None => false,
         Some(poset) => match a {
             Value::El(x) => match b {
-                Value::El(y) => poset.order.leq(x, y),
+                Value::El(y) => poset.order.is_below(*x, *y),
                 _ => false,
             },
             _ => false,
@@ -82,8 +81,6 @@ fn element_leq(poset: Option<&Poset>, a: &Value, b: &Value) -> bool
 }
 
 fn set_leq(poset: Option<&Poset>, a: &Value, b: &Value) -> bool
-    requires a_fits { IsTrue (fit.is_upper (option_copied poset) (out-Value a.now)) }
-    requires b_fits { IsTrue (fit.is_upper (option_copied poset) (out-Value b.now)) }
     ensures { result ≡ spec.set_leq (option_copied poset.entry) (out-Value a.now) (out-Value b.now) }
 {
     match poset {
@@ -92,7 +89,7 @@ fn set_leq(poset: Option<&Poset>, a: &Value, b: &Value) -> bool
             let order = UpperOrder { base: &poset.order };
             match a {
                 Value::Up(xs) => match b {
-                    Value::Up(ys) => order.leq(xs, ys),
+                    Value::Up(ys) => order.is_below(xs, ys),
                     _ => false,
                 },
                 _ => false,

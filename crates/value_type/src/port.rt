@@ -1,4 +1,4 @@
-ghost use Rattle.std.specs.Prelude.{◌≡◌, IfOk, IsTrue};
+ghost use Rattle.std.specs.Prelude.{◌≡◌, IfOk};
 ghost use Rattle.value_type.specs.Fits.{row_fits};
 ghost use Rattle.value_type.specs.PortKinds.{port_kinds};
 ghost use Rattle.value_type.specs.Leq.{row_leq};
@@ -61,12 +61,16 @@ pub fn ports_fit(types: &Types, ports: &[Port], values: &[Value]) -> bool
     true
 }
 
-/// Whether each of the first values is at most its partner.
+/// Whether there are two values for each port, and each of the first is at most its partner.
 pub fn ports_leq(types: &Types, ports: &[Port], xs: &[Value], ys: &[Value]) -> bool
-    requires xs_fit { IsTrue (row_fits types.now (port_kinds ports.now) xs.now) }
-    requires ys_fit { IsTrue (row_fits types.now (port_kinds ports.now) ys.now) }
     ensures { result ≡ row_leq types.now (port_kinds ports.now) xs.now ys.now }
 {
+    if ports.len() != xs.len() {
+        return false;
+    }
+    if ports.len() != ys.len() {
+        return false;
+    }
     for (at, port) in ports.iter().enumerate() {
         if !types.leq(&port.kind, &xs[at], &ys[at]) {
             return false;

@@ -1,4 +1,4 @@
-ghost use Rattle.std.specs.Prelude.{◌≡◌, IsTrue};
+ghost use Rattle.std.specs.Prelude.{◌≡◌};
 
 use crate::fits::fits;
 use crate::kind::Kind;
@@ -32,10 +32,8 @@ impl Types {
         fits(self, kind, value)
     }
 
-    /// Whether `a` is at most `b`, both values of this type.
+    /// Whether `a` is at most `b` as values of this type. Values of different forms never are.
     pub fn leq(&self, kind: &Kind, a: &Value, b: &Value) -> bool
-        requires a_fits { IsTrue (fits self.now kind.now a.now) }
-        requires b_fits { IsTrue (fits self.now kind.now b.now) }
         ensures { result ≡ leq self.now kind.now a.now b.now }
     {
         leq(self, kind, a, b)

@@ -1,4 +1,5 @@
-ghost use Rattle.std.specs.Prelude.{◌≡◌, IfOk};
+ghost use Rattle.std.specs.Prelude.{◌≡◌, IfOk, slice_get};
+ghost use Rattle.std.specs.Option.{option_copied};
 
 use crate::copy::copy_value;
 use crate::value::Value;
@@ -41,6 +42,13 @@ impl Row {
         ensures { result.now ≡ self.now }
     {
         self.values.as_slice()
+    }
+
+    /// The value of this number, if there is one.
+    pub fn get(&self, at: usize) -> Option<&Value>
+        ensures { option_copied result ≡ slice_get self.now at }
+    {
+        self.values().get(at)
     }
 
     /// A row equal to this one. With up to eight numbers it takes no memory.

@@ -73,6 +73,18 @@ fn compares_elements(rt: HostRuntime) -> Result<(), Fail> {
 }
 
 #[test]
+fn compares_no_number_of_no_element(rt: HostRuntime) -> Result<(), Fail> {
+    let order = crossed(rt.alloc())?;
+    assert!(rt; order.is_below(0, 0) && order.is_below(0, 2));
+    for number in [4, 63, 64, 66, u32::MAX] {
+        assert!(rt; !order.is_below(0, number), "{number}");
+        assert!(rt; !order.is_below(number, 2), "{number}");
+        assert!(rt; !order.is_below(number, number), "{number}");
+    }
+    Ok(())
+}
+
+#[test]
 fn gives_minimal_elements(rt: HostRuntime) -> Result<(), Fail> {
     let order = crossed(rt.alloc())?;
     assert_eq!(rt; order.least(rt.alloc())?.items(), [0, 1].as_slice());

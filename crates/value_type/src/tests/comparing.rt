@@ -95,3 +95,83 @@ fn tuples_compare_part_by_part(rt: HostRuntime) -> Result<(), Fail> {
     }
     Ok(())
 }
+
+/// The value is at most itself, and no other value is at most one of these.
+fn expect_alone(
+    rt: &impl Abort,
+    alloc: Global,
+    kind: &Kind,
+    own: Written,
+    others: &[Written],
+) -> Result<(), Fail> {
+    let types = crossed(alloc)?;
+    let own = value(alloc, own)?;
+    assert!(rt; types.leq(kind, &own, &own), "{own:?}");
+    for other in others {
+        let other = value(alloc, *other)?;
+        assert!(rt; !types.leq(kind, &own, &other), "{own:?} and {other:?}");
+        assert!(rt; !types.leq(kind, &other, &own), "{other:?} and {own:?}");
+        assert!(rt; !types.leq(kind, &other, &other), "{other:?}");
+    }
+    Ok(())
+}
+
+#[test]
+fn numbers_are_compared_to_numbers_alone(rt: HostRuntime) -> Result<(), Fail> {
+    let others = [Written::El(1), Written::Counts(&[1]), Written::Up(&[1])];
+    expect_alone(&rt, rt.alloc(), &NUMBERS, Written::Num(1), &others)?;
+    expect_alone(&rt, rt.alloc(), &NUMBERS, Written::Top, &others)
+}
+
+#[test]
+fn elements_are_compared_to_elements_alone(rt: HostRuntime) -> Result<(), Fail> {
+    let others = [
+        Written::Num(1),
+        Written::Top,
+        Written::Counts(&[1]),
+        Written::Up(&[1]),
+        // Numbers of no element.
+        Written::El(4),
+        Written::El(66),
+    ];
+    expect_alone(&rt, rt.alloc(), &Kind::Fin(0), Written::El(0), &others)
+}
+
+#[test]
+fn upper_sets_are_compared_to_upper_sets_alone(rt: HostRuntime) -> Result<(), Fail> {
+    let others = [
+        Written::Num(1),
+        Written::Top,
+        Written::El(1),
+        Written::Counts(&[1]),
+        // The members are no elements.
+        Written::Up(&[4]),
+        Written::Up(&[66]),
+    ];
+    expect_alone(&rt, rt.alloc(), &Kind::Up(0), Written::Up(&[0]), &others)
+}
+
+#[test]
+fn tuples_are_compared_to_tuples_alone(rt: HostRuntime) -> Result<(), Fail> {
+    let kind = pair_kind(rt.alloc(), NUMBERS, NUMBERS)?;
+    let others = [
+        Written::Num(1),
+        Written::Top,
+        Written::El(1),
+        Written::Up(&[1]),
+        // They have too few or too many parts.
+        Written::Counts(&[]),
+        Written::Counts(&[1]),
+        Written::Counts(&[1, 1, 1]),
+    ];
+    expect_alone(&rt, rt.alloc(), &kind, Written::Counts(&[1, 1]), &others)
+}
+
+#[test]
+fn values_of_a_missing_poset_are_not_compared(rt: HostRuntime) -> Result<(), Fail> {
+    let types = crossed(rt.alloc())?;
+    let (element, members) = (Value::El(0), upper(rt.alloc(), &[0])?);
+    assert!(rt; !types.leq(&Kind::Fin(1), &element, &element));
+    assert!(rt; !types.leq(&Kind::Up(1), &members, &members));
+    Ok(())
+}

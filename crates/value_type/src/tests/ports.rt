@@ -1,6 +1,7 @@
 use super::{NUMBERS, crossed, text};
-use crate::{Kind, Port, PortUnit, Value, kinds_of, ports_fit, ports_leq};
+use crate::{Kind, Port, PortUnit, Types, Value, kinds_of, ports_fit, ports_leq};
 use std::alloc::{AllocError, Global};
+use std::process::Abort;
 use std::test::Fail;
 
 /// A port of numbers and one of elements.
@@ -61,5 +62,39 @@ fn other_values_do_not_fit_ports(rt: HostRuntime) -> Result<(), Fail> {
     assert!(rt; !ports_fit(&types, ports, &[Value::El(0), Value::Num(3)]));
     assert!(rt; !ports_fit(&types, ports, &[Value::Num(3), Value::El(4)]));
     assert!(rt; !ports_fit(&types, ports, &[Value::Num(3), Value::El(0), Value::Top]));
+    Ok(())
+}
+
+/// Neither of the two rows is at most the other, and the second isn't at most itself.
+fn expect_apart(rt: &impl Abort, types: &Types, ports: &[Port], row: &[Value], other: &[Value]) {
+    assert!(rt;
+        !ports_leq(types, ports, row, other),
+        "{row:?} and {other:?}"
+    );
+    assert!(rt;
+        !ports_leq(types, ports, other, row),
+        "{other:?} and {row:?}"
+    );
+    assert!(rt; !ports_leq(types, ports, other, other), "{other:?}");
+}
+
+#[test]
+fn rows_of_another_length_are_at_most_none(rt: HostRuntime) -> Result<(), Fail> {
+    let alloc = rt.alloc();
+    let types = crossed(alloc)?;
+    let ports = ports(alloc)?;
+    let ports = ports.as_slice();
+    let row = [Value::Num(3), Value::El(0)];
+    let row = row.as_slice();
+    assert!(rt; ports_leq(&types, ports, row, row));
+    expect_apart(&rt, &types, ports, row, &[]);
+    expect_apart(&rt, &types, ports, row, &[Value::Num(3)]);
+    expect_apart(
+        &rt,
+        &types,
+        ports,
+        row,
+        &[Value::Num(3), Value::El(0), Value::Top],
+    );
     Ok(())
 }

@@ -1,12 +1,9 @@
-use Rattle.std.proofs.Common.{refl}
-use Rattle.value_type.specs.PortKinds.{fits_length}
+use Rattle.std.proofs.Common.{sym}
+use Rattle.value_type.specs.PortKinds.{lower_unequal, upper_unequal}
 use Rattle.value_type.proofs.port.ports_leq.Goals as goal
 
-pub loop-at-init : goal.loop-at-init
-loop-at-init c = record {
-  decides = refl;
-  xs_fit = c.requires.xs_fit;
-  ys_fit = c.requires.ys_fit;
-  xs_length = fits_length c.args.types.now c.args.ports.now c.args.xs.now c.requires.xs_fit;
-  ys_length = fits_length c.args.types.now c.args.ports.now c.args.ys.now c.requires.ys_fit;
-}
+pub returns-then-ports-xs : goal.returns-then-ports-xs
+returns-then-ports-xs c = sym (lower_unequal c.args.types.now c.args.ports.now c.args.xs.now c.args.ys.now c.if-ports-xs.true)
+
+pub returns-then-ports-ys : goal.returns-then-ports-ys
+returns-then-ports-ys c = sym (upper_unequal c.args.types.now c.args.ports.now c.args.xs.now c.args.ys.now c.if-ports-ys.true)
