@@ -1,5 +1,5 @@
 -- The minimal rows of those that provide enough are the minima of the catalogue.
-use Rattle.std.proofs.Common.{◌≡◌, refl, subst, ℕ, zero, suc, Bool, true, false, IsTrue, List, [], ◌∷◌, map, filter, cond, slice_get, Option, Some, None, IsSomeAnd, inl, inr}
+use Rattle.std.proofs.Common.{◌≡◌, ◌∙◌, refl, ap, subst, ℕ, zero, suc, Bool, true, false, IsTrue, List, [], ◌∷◌, map, filter, cond, slice_get, IsSomeAnd, inl, inr}
 use Rattle.std.specs.List.{list_all, list_any}
 use Rattle.order_core.specs.Members.{IsMember, first, second, both, all_elim, any_elim, any_intro}
 use Rattle.order_core.specs.Minimal.{IsMinimal}
@@ -13,12 +13,15 @@ use Rattle.value_type.specs.Leq.{row_leq}
 use Rattle.value_type.specs.PortKinds.{port_kinds}
 use Rattle.design_model.specs.declared.design.CatRow.{CatRow}
 use Rattle.design_model.specs.declared.design.Design.{Design}
-use Rattle.design_model.specs.declared.design.Witness.{Witness}
-use Rattle.design_model.specs.declared.design.Witness.TheVariants as witness
+use Rattle.design_model.specs.declared.witness.Witness.{Witness, out-Witness}
+use Rattle.design_model.specs.declared.witness.Witness.TheVariants as witness
 use Rattle.design_model.specs.Feasible.{IsFeasible, AreMinima}
-use Rattle.design_model.specs.Fitting.{holds_rows}
-use Rattle.design_model.specs.Holds.{Holds, RowHolds, fits_ports, rows_fit}
-use Rattle.design_model.specs.Parts.{provided_ports, required_ports, rows_of}
+use Rattle.design_model.specs.Holds.{Fit, Holds, HoldsByRow, RowHolds}
+use Rattle.design_model.specs.HoldsCases.{by_row, of_row}
+use Rattle.design_model.specs.HoldsLaws.{Holds-Cat, holds_fits}
+use Rattle.design_model.specs.Parts.{provided_ports, required_ports, rows_of, is_catalogue}
+use Rattle.design_model.specs.PartsLaws.{catalogue_is}
+use Rattle.design_model.specs.Typed.{row_is_typed, rows_fit}
 use Rattle.catalogue_solve.specs.Enough.{required_by, AreSortedMinima}
 
 module _ (t : Types) (provides requires_ : List Port) where
@@ -41,10 +44,10 @@ module _ (t : Types) (provides requires_ : List Port) where
       go false p = p
 
   -- What is found is required by a row that provides enough.
-  found_from : (f q : List Value) (rows : List CatRow) → IsTrue (row_fits t (port_kinds provides) f) → IsTrue (row_fits t (port_kinds requires_) q) → IsTrue (r_leq q q)
+  found_from : (f q : List Value) (rows : List CatRow) → IsTrue (r_leq q q)
       → IsMember q (required_by t provides f rows) → (k : ℕ) × IsSomeAnd (slice_get rows k) (RowHolds t provides requires_ f q)
-  found_from f q [] fits_f fits_q self m = absurd m
-  found_from f q (row ∷ rows) fits_f fits_q self m = go (f_leq f row.provided) refl (found_from f q rows fits_f fits_q self) m
+  found_from f q [] self m = absurd m
+  found_from f q (row ∷ rows) self m = go (f_leq f row.provided) refl (found_from f q rows self) m
     where
       later : (k : ℕ) × IsSomeAnd (slice_get rows k) (RowHolds t provides requires_ f q) → (k : ℕ) × IsSomeAnd (slice_get (row ∷ rows) k) (RowHolds t provides requires_ f q)
       later p = (suc p.0, p.1)
@@ -52,25 +55,21 @@ module _ (t : Types) (provides requires_ : List Port) where
       go : (b : Bool) → f_leq f row.provided ≡ b → (IsMember q (required_by t provides f rows) → (k : ℕ) × IsSomeAnd (slice_get rows k) (RowHolds t provides requires_ f q))
           → IsMember q (map (λ row. row.required) (cond b (row ∷ filter (λ row. f_leq f row.provided) rows) (filter (λ row. f_leq f row.provided) rows)))
           → (k : ℕ) × IsSomeAnd (slice_get (row ∷ rows) k) (RowHolds t provides requires_ f q)
-      go true e ih (inl same) = (zero, record { f_fits = fits_f; r_fits = fits_q; enough = e; within = subst (λ (z : List Value). IsTrue (r_leq z q)) same self })
+      go true e ih (inl same) = (zero, record { enough = e; within = subst (λ (z : List Value). IsTrue (r_leq z q)) same self })
       go true e ih (inr n) = later (ih n)
       go false e ih n = later (ih n)
 
   -- Each found row fits the required ports.
-  pub found_fits : (f : List Value) (rows : List CatRow) → IsTrue (list_all (fits_ports t provides requires_) rows) → IsTrue (list_all (row_fits t (port_kinds requires_)) (required_by t provides f rows))
+  pub found_fits : (f : List Value) (rows : List CatRow) → IsTrue (list_all (row_is_typed t provides requires_) rows) → IsTrue (list_all (row_fits t (port_kinds requires_)) (required_by t provides f rows))
   found_fits f [] h = refl
-  found_fits f (row ∷ rows) h = go (f_leq f row.provided) (found_fits f rows (second (fits_ports t provides requires_ row) _ h))
+  found_fits f (row ∷ rows) h = go (f_leq f row.provided) (found_fits f rows (second (row_is_typed t provides requires_ row) _ h))
     where
       go : (b : Bool) → IsTrue (list_all (row_fits t (port_kinds requires_)) (required_by t provides f rows))
           → IsTrue (list_all (row_fits t (port_kinds requires_)) (map (λ row. row.required) (cond b (row ∷ filter (λ row. f_leq f row.provided) rows) (filter (λ row. f_leq f row.provided) rows))))
       go true ih = both _ _ (second (row_fits t (port_kinds provides) row.provided) _ (first _ _ h)) ih
       go false ih = ih
 
-  pub provided_fit : (rows : List CatRow) → IsTrue (list_all (fits_ports t provides requires_) rows) → IsTrue (list_all (λ row. row_fits t (port_kinds provides) row.provided) rows)
-  provided_fit [] h = refl
-  provided_fit (row ∷ rows) h = both _ _ (first (row_fits t (port_kinds provides) row.provided) _ (first _ _ h)) (provided_fit rows (second (fits_ports t provides requires_ row) _ h))
-
-module _ (t : Types) (d : Design) (f : List Value) (fit : IsTrue (rows_fit t d)) (f_fits : IsTrue (row_fits t (port_kinds (provided_ports d)) f)) (made : List (List Value))
+module _ (t : Types) (d : Design) (f : List Value) (catalogue : IsTrue (is_catalogue d)) (fit : IsTrue (rows_fit t d)) (f_fits : IsTrue (row_fits t (port_kinds (provided_ports d)) f)) (made : List (List Value))
     (h : AreSortedMinima (row_leq t (port_kinds (required_ports d))) (required_by t (provided_ports d) f (rows_of d)) made) where
   abbrev found : List (List Value)
   found = required_by t (provided_ports d) f (rows_of d)
@@ -84,21 +83,22 @@ module _ (t : Types) (d : Design) (f : List Value) (fit : IsTrue (rows_fit t d))
   fits_found : (q : List Value) → IsMember q found → IsTrue (row_fits t (port_kinds (required_ports d)) q)
   fits_found q m = all_elim (row_fits t (port_kinds (required_ports d))) found q (found_fits t (provided_ports d) (required_ports d) f (rows_of d) fit) m
 
+  by_rows : (r : List Value) (w : Witness)
+      → Holds t d f r w ≡ (Fit t (provided_ports d) (required_ports d) f r × HoldsByRow t (provided_ports d) (required_ports d) (rows_of d) f r (out-Witness w))
+  by_rows r w = ap (λ (x : Design). Holds t x f r w) (catalogue_is d catalogue) ∙ Holds-Cat t (provided_ports d) (required_ports d) (rows_of d) f r w
+
   feasible : (q : List Value) → IsMember q found → IsFeasible t d f q
   feasible q m =
       let fits = fits_found q m in
-      let k = found_from t (provided_ports d) (required_ports d) f q (rows_of d) f_fits fits (laws.reflexive q fits) m in
-      (witness.Row k.0, rw (holds_rows t d f q k.0) k.1)
+      let k = found_from t (provided_ports d) (required_ports d) f q (rows_of d) (laws.reflexive q fits) m in
+      let holds = of_row t (provided_ports d) (required_ports d) (rows_of d) f q k.0 k.1 in
+      (witness.Row k.0, rw (by_rows q (witness.Row k.0)) (record { provided = f_fits; required = fits }, holds))
 
   allowed : (r : List Value) (w : Witness) → Holds t d f r w → (k : ℕ) × IsSomeAnd (slice_get (rows_of d) k) (RowHolds t (provided_ports d) (required_ports d) f r)
-  allowed r (witness.Row k) p = (k, rw (holds_rows t d f r k) at p)
+  allowed r w p = let k = by_row t (provided_ports d) (required_ports d) (rows_of d) f r w (rw (by_rows r w) at p).1 in (k.0, k.2)
 
   fits_feasible : (r : List Value) → IsFeasible t d f r → IsTrue (row_fits t (port_kinds (required_ports d)) r)
-  fits_feasible r p = let k = allowed r p.0 p.1 in from_row (slice_get (rows_of d) k.0) k.1
-    where
-      from_row : (o : Option CatRow) → IsSomeAnd o (RowHolds t (provided_ports d) (required_ports d) f r) → IsTrue (row_fits t (port_kinds (required_ports d)) r)
-      from_row None n = absurd n
-      from_row (Some row) n = n.r_fits
+  fits_feasible r p = (holds_fits t d f r p.0 p.1).required
 
   above_found : (r : List Value) → IsFeasible t d f r → (q : List Value) × IsMember q found × IsTrue (leq q r)
   above_found r p = let k = allowed r p.0 p.1 in found_at t (provided_ports d) (required_ports d) f r (rows_of d) k.0 k.1

@@ -6,8 +6,8 @@ ghost use Rattle.value_type.specs.Leq.{row_leq};
 ghost use Rattle.value_type.specs.PortKinds.{port_kinds};
 ghost use Rattle.value_type.specs.PrintOrder.{is_before};
 ghost use Rattle.design_model.specs.Feasible.{AreMinima};
-ghost use Rattle.design_model.specs.Holds.{rows_fit};
-ghost use Rattle.design_model.specs.Parts.{provided_ports};
+ghost use Rattle.design_model.specs.Parts.{provided_ports, is_catalogue};
+ghost use Rattle.design_model.specs.Typed.{rows_fit};
 ghost use Rattle.catalogue_solve.specs.Enough.{required_by, AreSortedMinima};
 
 use antichain::Antichain;
@@ -24,8 +24,6 @@ fn enough(
     rows: &[CatRow],
     f: &Row,
 ) -> Result<Vec<Row>, NoMemory>
-    requires rows_fit { IsTrue (list_all (λ row. row_fits types.now (port_kinds provides.now) row.provided) rows.now) }
-    requires f_fits { IsTrue (row_fits types.now (port_kinds provides.now) f.now) }
     ensures { IfOk result (λ found. found.items ≡ required_by types.now provides.now f.now rows.now) }
 {
     let mut found = Vec::new(alloc);
@@ -84,6 +82,7 @@ pub fn minimal_rows(
     design: &Design,
     f: &Row,
 ) -> Result<List<Row>, NoMemory>
+    requires catalogue { IsTrue (is_catalogue design.now) }
     requires rows_fit { IsTrue (rows_fit types.now design.now) }
     requires f_fits { IsTrue (row_fits types.now (port_kinds (provided_ports design.now)) f.now) }
     ensures { IfOk result (AreMinima types.now design.now f.now) }

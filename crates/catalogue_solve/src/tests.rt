@@ -1,6 +1,7 @@
 ghost use Rattle.std.specs.Prelude.{◌≡◌, IsTrue};
 ghost use Rattle.std.specs.List.{list_all};
-ghost use Rattle.design_model.specs.Holds.{fits_ports, rows_fit};
+ghost use Rattle.design_model.specs.Parts.{is_catalogue};
+ghost use Rattle.design_model.specs.Typed.{row_is_typed, rows_fit};
 
 use self::Written::{El, Num, Top};
 use crate::minimal_rows;
@@ -101,7 +102,7 @@ fn catalogue(alloc: Global, second: Kind, lines: &[Line]) -> Result<Design, Fail
 
 /// Whether each of the rows fits the ports.
 fn all_fit(types: &Types, provides: &[Port], requires_: &[Port], rows: &[CatRow]) -> bool
-    ensures { result ≡ list_all (fits_ports types.now provides.now requires_.now) rows.now }
+    ensures { result ≡ list_all (row_is_typed types.now provides.now requires_.now) rows.now }
 {
     for row in rows {
         if !ports_fit(types, provides, row.provided.values()) {
@@ -118,13 +119,14 @@ fn all_fit(types: &Types, provides: &[Port], requires_: &[Port], rows: &[CatRow]
 fn rows_fit(types: &Types, design: &Design) -> bool
     ensures { result ≡ rows_fit types.now design.now }
 {
-    match design {
-        Design::Cat {
-            provides,
-            requires_,
-            rows,
-        } => all_fit(types, provides.items(), requires_.items(), rows.items()),
-    }
+    all_fit(types, design.provides(), design.requires_(), design.rows())
+}
+
+/// Whether the design is a catalogue.
+fn is_catalogue(design: &Design) -> bool
+    ensures { result ≡ is_catalogue design.now }
+{
+    matches!(design, Design::Cat { .. })
 }
 
 fn is_same(value: &Value, written: Written) -> bool {
@@ -154,6 +156,7 @@ fn expect_minima(
     (f, wants): (Written, &[[Written; 2]]),
 ) -> Result<(), Fail> {
     let f = row(alloc, &[f])?;
+    assert!(rt; is_catalogue(design));
     assert!(rt; rows_fit(types, design) && ports_fit(types, design.provides(), f.values()));
     let found = minimal_rows(alloc, types, design, &f)?;
     assert_eq!(rt; found.items().len(), wants.len());

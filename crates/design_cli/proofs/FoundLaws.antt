@@ -7,7 +7,8 @@ use Rattle.order_core.specs.Members.{IsMember}
 use Rattle.design_cli.specs.declared.library.NamedDesign.{NamedDesign}
 use Rattle.design_cli.specs.declared.library.FileRead.{FileRead}
 use Rattle.design_model.specs.declared.design.Design.{Design}
-use Rattle.design_model.specs.Holds.{rows_fit}
+use Rattle.design_model.specs.Parts.{is_catalogue}
+use Rattle.design_model.specs.Typed.{rows_fit}
 use Rattle.design_cli.specs.Judged.{AllWrite, WritesCatalogue, WritesDesign}
 use Rattle.plain_form.specs.Plain.{IsPlain}
 use Rattle.std.specs.Prelude.{Result, Ok, Err}
@@ -17,7 +18,7 @@ use Rattle.design_cli.specs.declared.status.Status.TheVariants.{Done, Usage, Lib
 use Rattle.design_cli.specs.declared.status.QueryFault.TheVariants as query
 use Rattle.design_cli.specs.Outcome.{AnswersQuery, Replies}
 use Rattle.design_cli.specs.Posets.{no_posets}
-use Rattle.plain_form.specs.Fitting.{HasNumberPorts, plain_fits, plain_ports}
+use Rattle.plain_form.specs.Fitting.{HasNumberPorts, plain_catalogue, plain_fits, plain_ports}
 
 pub mapped_some : {A B : Type 0} (f : A → B) (o : Option A) (y : B) → Some y ≡ option_map f o → (x : A) × (o ≡ Some x) × (f x ≡ y)
 mapped_some f None y h = absurd (cc)
@@ -52,6 +53,9 @@ module _ (p : NamedDesign → Bool) (files : List FileRead) (designs : List Name
       let w = found_written p files designs d.0 h d.1 in
       let c = written_whole w.0.content d.0 w.2.content in
       (c.0, subst (λ (x : Design). IsPlain c.0 x) d.2 c.2)
+
+  pub found_catalogue : IsTrue (is_catalogue catalogue)
+  found_catalogue = plain_catalogue plain.0 catalogue plain.1
 
   pub found_fits : IsTrue (rows_fit no_posets catalogue)
   found_fits = plain_fits no_posets plain.0 catalogue plain.1

@@ -3,8 +3,8 @@ ghost use Rattle.value_type.specs.declared.value.Value.{Value};
 ghost use Rattle.value_type.specs.Fits.{row_fits};
 ghost use Rattle.value_type.specs.PortKinds.{port_kinds};
 ghost use Rattle.design_model.specs.Feasible.{AreMinima};
-ghost use Rattle.design_model.specs.Holds.{rows_fit};
-ghost use Rattle.design_model.specs.Parts.{provided_ports, required_ports};
+ghost use Rattle.design_model.specs.Parts.{provided_ports, required_ports, is_catalogue};
+ghost use Rattle.design_model.specs.Typed.{rows_fit};
 ghost use Rattle.plain_form.specs.Fitting.{HasNumberPorts};
 ghost use Rattle.design_cli.specs.Outcome.{AnswersQuery, Replies};
 ghost use Rattle.design_cli.specs.Posets.{no_posets};
@@ -22,6 +22,7 @@ use value_type::{Row, Types};
 
 /// The report of the minima of a catalogue.
 fn minimal_report(alloc: Global, catalogue: &Design, f: &Row) -> Result<Text, NoMemory>
+    requires catalogue { IsTrue (is_catalogue catalogue.now) }
     requires rows_fit { IsTrue (rows_fit no_posets catalogue.now) }
     requires f_fits { IsTrue (row_fits no_posets (port_kinds (provided_ports catalogue.now)) f.now) }
     ensures { IfOk result (λ text. (rows : List (List Value)) × AreMinima no_posets catalogue.now f.now rows × (text ≡ report (required_ports catalogue.now) rows)) }
@@ -35,6 +36,7 @@ fn minimal_report(alloc: Global, catalogue: &Design, f: &Row) -> Result<Text, No
 
 /// The report of a catalogue for a query.
 fn query_report(alloc: Global, catalogue: &Design, query: &str) -> Result<Text, Status>
+    requires catalogue { IsTrue (is_catalogue catalogue.now) }
     requires rows_fit { IsTrue (rows_fit no_posets catalogue.now) }
     requires ports { HasNumberPorts catalogue.now }
     ensures { AnswersQuery catalogue.now query.now result }

@@ -93,11 +93,10 @@ pub fn designs_of(alloc: Global, files: &[FileRead]) -> Result<Vec<NamedDesign>,
             return Err(refusal(alloc, file));
         }
         match design_of(alloc, file) {
-            Ok(design) => {
-                if designs.push(design).is_err() {
-                    return Err(LibraryError::Memory);
-                }
-            }
+            Ok(design) => match designs.push(design) {
+                Ok(()) => {}
+                Err(_) => return Err(LibraryError::Memory),
+            },
             Err(ReadFault::NotPlain) => return Err(refusal(alloc, file)),
             Err(ReadFault::Memory) => return Err(LibraryError::Memory),
         }

@@ -1,6 +1,7 @@
 ghost use Rattle.std.specs.Prelude.{◌≡◌, slice_get};
 ghost use Rattle.std.specs.Option.{option_copied};
 
+use crate::expr::Constraint;
 use order_core::{List, Text};
 use value_type::{Port, Row};
 
@@ -14,7 +15,16 @@ pub struct CatRow {
     pub required: Row,
 }
 
+/// A branch of a choice, or a part of a net.
+#[cycle(design)]
+#[derive(Drop)]
+pub struct Part {
+    pub name: Text,
+    pub design: Design,
+}
+
 /// A design: something that provides functionality and requires resources.
+#[cycle(design)]
 #[derive(Drop)]
 pub enum Design {
     /// A catalogue of implementations.
@@ -22,6 +32,19 @@ pub enum Design {
         provides: List<Port>,
         requires_: List<Port>,
         rows: List<CatRow>,
+    },
+    /// A choice between designs with the same ports.
+    Choice {
+        provides: List<Port>,
+        requires_: List<Port>,
+        branches: List<Part>,
+    },
+    /// A net of parts, joined by constraints.
+    Net {
+        provides: List<Port>,
+        requires_: List<Port>,
+        parts: List<Part>,
+        constraints: List<Constraint>,
     },
 }
 
@@ -34,6 +57,8 @@ impl Design {
     {
         match self {
             Design::Cat { provides, .. } => provides.items(),
+            Design::Choice { provides, .. } => provides.items(),
+            Design::Net { provides, .. } => provides.items(),
         }
     }
 
@@ -43,29 +68,19 @@ impl Design {
     {
         match self {
             Design::Cat { requires_, .. } => requires_.items(),
+            Design::Choice { requires_, .. } => requires_.items(),
+            Design::Net { requires_, .. } => requires_.items(),
         }
     }
 
-    /// The rows, if the design is a catalogue.
+    /// The rows of a catalogue. Another design has none.
     pub fn rows(&self) -> &[CatRow]
         ensures { result.now ≡ rows_of self.now }
     {
         match self {
             Design::Cat { rows, .. } => rows.items(),
+            Design::Choice { .. } => &[],
+            Design::Net { .. } => &[],
         }
     }
-
-    /// The row of this number, if the design is a catalogue that has it.
-    pub fn row(&self, number: u32) -> Option<&CatRow>
-        ensures { option_copied result ≡ slice_get (rows_of self.now) number }
-    {
-        self.rows().get(number as usize)
-    }
-}
-
-/// How a design is made: the choice of an implementation.
-#[derive(Drop)]
-pub enum Witness {
-    /// The row of a catalogue, counted from 0.
-    Row(u32),
 }

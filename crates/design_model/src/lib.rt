@@ -1,11 +1,24 @@
 //! Designs, what they allow, and the test of one choice.
 #![tactic(auto)]
 
+mod comparing;
+mod constraint;
 mod design;
+mod expr;
 mod holding;
+mod number;
+mod reading;
+mod solved;
+mod value;
+mod witness;
 
-pub use design::{CatRow, Design, Witness};
+pub use comparing::above;
+pub use design::{CatRow, Design, Part};
+pub use expr::{Constraint, Expr, Greater};
 pub use holding::holds;
+pub use solved::{Point, Solved, Unsteady};
+pub use value::value_of;
+pub use witness::{PartWitness, Witness};
 
 #[cfg(test)]
 mod tests;

@@ -27,8 +27,9 @@ use Rattle.value_type.specs.Ports.{counts_units}
 use Rattle.design_model.specs.declared.design.CatRow.{CatRow}
 use Rattle.design_model.specs.declared.design.Design.{Design}
 use Rattle.design_model.specs.declared.design.Design.TheVariants.{Cat}
-use Rattle.design_model.specs.Holds.{fits_ports, rows_fit}
-use Rattle.design_model.specs.Parts.{provided_ports, required_ports}
+use Rattle.design_model.specs.Parts.{provided_ports, required_ports, is_catalogue}
+use Rattle.design_model.specs.PartsLaws.{provided-Cat, required-Cat, rows-Cat, catalogue-Cat}
+use Rattle.design_model.specs.Typed.{row_is_typed, rows_fit}
 use Rattle.plain_form.specs.declared.rounding.Rounding.{Rounding}
 use Rattle.plain_form.specs.declared.rounding.Rounding.TheVariants.{Up, Down}
 use Rattle.plain_form.specs.Maybe.{bind_some, cond_some, when_some}
@@ -164,8 +165,8 @@ cells_fit t rounding (port ∷ ports) (c ∷ cs) vs p h =
     (both _ _ head (cells_fit t rounding ports cs b.0 (second (is_number_port port) _ p) b.1))
 
 pub rows_in_place : (t : Types) (ps qs : List Port) (ws : List WrittenRow) (rows : List CatRow) → IsTrue (list_all is_number_port ps) → IsTrue (list_all is_number_port qs)
-    → means_rows ps qs ws ≡ Some rows → IsTrue (list_all (fits_ports t ps qs) rows)
-rows_in_place t ps qs [] rows p q h = let none : [] ≡ rows = cc in subst (λ (rs : List CatRow). IsTrue (list_all (fits_ports t ps qs) rs)) none refl
+    → means_rows ps qs ws ≡ Some rows → IsTrue (list_all (row_is_typed t ps qs) rows)
+rows_in_place t ps qs [] rows p q h = let none : [] ≡ rows = cc in subst (λ (rs : List CatRow). IsTrue (list_all (row_is_typed t ps qs) rs)) none refl
 rows_in_place t ps qs (w ∷ ws) rows p q h =
     let a = bind_some (means_row ps qs w) _ rows h in
     let b = bind_some (means_rows ps qs ws) _ rows a.2 in
@@ -173,9 +174,9 @@ rows_in_place t ps qs (w ∷ ws) rows p q h =
     let required = bind_some (means_cells Up qs w.required) _ a.0 provided.2 in
     let row = cond_some (is_name w.name) (record { name = w.name; provided = provided.0; required = required.0 }) a.0 required.2 in
     let whole : a.0 ∷ b.0 ≡ rows = cc (b.2) in
-    let head : IsTrue (fits_ports t ps qs a.0) = subst (λ (r : CatRow). IsTrue (fits_ports t ps qs r)) row.1
+    let head : IsTrue (row_is_typed t ps qs a.0) = subst (λ (r : CatRow). IsTrue (row_is_typed t ps qs r)) row.1
     (both _ _ (cells_fit t Down ps w.provided provided.0 p provided.1) (cells_fit t Up qs w.required required.0 q required.1)) in
-    subst (λ (rs : List CatRow). IsTrue (list_all (fits_ports t ps qs) rs)) whole (both _ _ head (rows_in_place t ps qs ws b.0 p q b.1))
+    subst (λ (rs : List CatRow). IsTrue (list_all (row_is_typed t ps qs) rs)) whole (both _ _ head (rows_in_place t ps qs ws b.0 p q b.1))
 
 -- ---- whole catalogues and queries
 
@@ -197,9 +198,21 @@ meaning_of w design h t =
     let d = cond_some (are_some_distinct (port_names a.0) && (are_some_distinct (port_names b.0) && are_some_distinct (row_names c.0))) (Cat a.0 b.0 c.0) design c.2 in
     let p = ports_are_numbers w.provides a.0 a.1 in
     let q = ports_are_numbers w.requires_ b.0 b.1 in (
-      subst HasNumberPorts d.1 (record { provides = p; requires_ = q; some = some_named a.0 (first _ _ d.0) }),
-      subst (λ (x : Design). IsTrue (rows_fit t x)) d.1 (rows_in_place t a.0 b.0 w.rows c.0 p q c.1),
+      subst HasNumberPorts d.1 (record { provides = rw provided-Cat p; requires_ = rw required-Cat q; some = rw provided-Cat (some_named a.0 (first _ _ d.0)) }),
+      subst (λ (x : Design). IsTrue (rows_fit t x)) d.1 (rw (provided-Cat, required-Cat, rows-Cat) (rows_in_place t a.0 b.0 w.rows c.0 p q c.1)),
     )
+
+catalogue_of : (w : Written) (design : Design) → means w ≡ Some design → IsTrue (is_catalogue design)
+catalogue_of w design h =
+    let a = bind_some (means_ports w.provides) _ design h in
+    let b = bind_some (means_ports w.requires_) _ design a.2 in
+    let c = bind_some (means_rows a.0 b.0 w.rows) _ design b.2 in
+    let d = cond_some (are_some_distinct (port_names a.0) && (are_some_distinct (port_names b.0) && are_some_distinct (row_names c.0))) (Cat a.0 b.0 c.0) design c.2 in
+    subst (λ (x : Design). IsTrue (is_catalogue x)) d.1 (catalogue-Cat a.0 b.0 c.0)
+
+-- What is written in the plain form is a catalogue.
+pub plain_catalogue : (bytes : List ℕ) (design : Design) → IsPlain bytes design → IsTrue (is_catalogue design)
+plain_catalogue bytes design p = catalogue_of p.written design p.meaning
 
 -- Every row of a plain catalogue fits its ports, whatever the posets are.
 pub plain_fits : (t : Types) (bytes : List ℕ) (design : Design) → IsPlain bytes design → IsTrue (rows_fit t design)

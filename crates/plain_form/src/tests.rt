@@ -333,7 +333,7 @@ fn cell_counts(alloc: Global, port: &str, cell: &str) -> Result<Option<(u64, u64
         Err(ReadFault::NotPlain) => return Ok(None),
         Err(ReadFault::Memory) => return Err(Fail::from(NoMemory)),
     };
-    let row = design.row(0).ok_or("no row")?;
+    let row = design.rows().get(0).ok_or("no row")?;
     let provided = one_count(row.provided.values()).ok_or("no provided count")?;
     let required = one_count(row.required.values()).ok_or("no required count")?;
     Ok(Some((provided, required)))
@@ -377,8 +377,8 @@ fn reads_the_worked_row(rt: HostRuntime) -> Result<(), Fail> {
         return Err(Fail::from("no required port"));
     };
     assert_eq!(rt; parts(required), Some(("y", gram, Some(("g", 1)))));
-    expect_row(&rt, rt.alloc(), design.row(0), "a", &[1], &[2])?;
-    assert!(rt; design.row(1).is_none());
+    expect_row(&rt, rt.alloc(), design.rows().get(0), "a", &[1], &[2])?;
+    assert!(rt; design.rows().get(1).is_none());
     Ok(())
 }
 
@@ -395,10 +395,10 @@ fn reads_plain_numbers(rt: HostRuntime) -> Result<(), Fail> {
     };
     assert_eq!(rt; parts(mass), Some(("mass", number, None)));
     assert_eq!(rt; parts(cost), Some(("cost", number, None)));
-    expect_row(&rt, rt.alloc(), design.row(0), "a", &[100], &[10, 5])?;
-    expect_row(&rt, rt.alloc(), design.row(1), "b", &[120], &[8, 7])?;
-    expect_row(&rt, rt.alloc(), design.row(2), "c", &[200], &[12, 7])?;
-    assert!(rt; design.row(3).is_none());
+    expect_row(&rt, rt.alloc(), design.rows().get(0), "a", &[100], &[10, 5])?;
+    expect_row(&rt, rt.alloc(), design.rows().get(1), "b", &[120], &[8, 7])?;
+    expect_row(&rt, rt.alloc(), design.rows().get(2), "c", &[200], &[12, 7])?;
+    assert!(rt; design.rows().get(3).is_none());
     Ok(())
 }
 
@@ -576,7 +576,8 @@ fn knows_the_files_that_are_read(rt: HostRuntime) {
 #[test]
 fn rounds_queries_up(rt: HostRuntime) -> Result<(), Fail> {
     let worked = read_catalogue(rt.alloc(), WORKED.as_bytes())?;
-    assert!(rt; !worked.provides().is_empty());
+    let ports = worked.provides();
+    assert!(rt; !ports.is_empty());
     for (text, count) in [
         ("0.5 g", 1),
         ("1.5 g", 2),
@@ -585,7 +586,7 @@ fn rounds_queries_up(rt: HostRuntime) -> Result<(), Fail> {
         ("0 g", 0),
         ("3 kg", 3_000),
     ] {
-        let values = read_query(rt.alloc(), worked.provides(), text)?;
+        let values = read_query(rt.alloc(), ports, text)?;
         assert_eq!(rt;
             counts(rt.alloc(), values.values())?.as_slice(),
             [count].as_slice(),

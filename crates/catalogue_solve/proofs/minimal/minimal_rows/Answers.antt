@@ -5,17 +5,9 @@ use Rattle.value_type.specs.PortKinds.{port_kinds}
 use Rattle.design_model.specs.Feasible.{AreMinima}
 use Rattle.design_model.specs.Parts.{provided_ports, required_ports, rows_of}
 use Rattle.catalogue_solve.specs.Enough.{required_by, AreSortedMinima}
-use Rattle.catalogue_solve.proofs.MinimaLaws.{are_minima, found_fits, provided_fit}
+use Rattle.catalogue_solve.proofs.MinimaLaws.{are_minima, found_fits}
 use Rattle.catalogue_solve.proofs.MinimaOf.{if_ok}
 use Rattle.catalogue_solve.proofs.minimal.minimal_rows.Goals as goal
-
-pub enough-requires-clause-rows_fit : goal.enough-requires-clause-rows_fit
-enough-requires-clause-rows_fit c =
-    let d = c.args.design.now in
-    rw (c.provides.ensures, c.rows.ensures) (provided_fit c.args.types.now (provided_ports d) (required_ports d) (rows_of d) c.requires.rows_fit)
-
-pub enough-requires-clause-f_fits : goal.enough-requires-clause-f_fits
-enough-requires-clause-f_fits c = rw c.provides.ensures c.requires.f_fits
 
 pub sorted_minima-requires : goal.sorted_minima-requires
 sorted_minima-requires c =
@@ -29,6 +21,6 @@ returns c =
     let d = c.args.design.now in
     let found : c.in_ok-found.found.items ≡ required_by t (provided_ports d) c.args.f.now (rows_of d) = rw (c.provides.ensures, c.rows.ensures) at c.in_ok-found.ensures in
     if_ok (AreSortedMinima (row_leq t (port_kinds (required_ports d))) c.in_ok-found.found.items) (AreMinima t d c.args.f.now) c.sorted_minima.result
-    (λ made h. are_minima t d c.args.f.now c.requires.rows_fit c.requires.f_fits made
+    (λ made h. are_minima t d c.args.f.now c.requires.catalogue c.requires.rows_fit c.requires.f_fits made
     (subst (λ (rows : List (List Value)). AreSortedMinima (row_leq t (port_kinds (required_ports d))) rows made) found h))
     (rw c.requires_.ensures at c.sorted_minima.ensures)

@@ -1,6 +1,10 @@
 use Rattle.std.specs.Str.{bytes_eq}
-use Rattle.design_cli.proofs.FoundLaws.{found_fits, found_ports, replies_found}
+use Rattle.design_cli.proofs.FoundLaws.{found_catalogue, found_fits, found_ports, replies_found}
 use Rattle.design_cli.proofs.answer.answer.Goals as goal
+
+pub query_report-requires-clause-catalogue : goal.query_report-requires-clause-catalogue
+query_report-requires-clause-catalogue c =
+    found_catalogue (λ design. bytes_eq design.name c.args.name.now) c.args.files.now _ c.in-Some.design c.in-Ok.ensures.designs c.in-Some.ensures
 
 pub query_report-requires-clause-rows_fit : goal.query_report-requires-clause-rows_fit
 query_report-requires-clause-rows_fit c =

@@ -1,4 +1,3 @@
-use Rattle.std.proofs.Common.{◌≡◌}
 use Rattle.plain_form.proofs.CatalogueLaws.{catalogue_back, query_back}
 use Rattle.plain_form.proofs.laws.meaning_is_unique.Goals as goal
 

@@ -1,0 +1,34 @@
+-- What is known of each kind of design for its enough rounds.
+use Rattle.std.specs.Prelude.{◌≡◌, List, map}
+use Rattle.std.proofs.Common.{ap, ◌∙◌}
+use Rattle.value_type.specs.declared.port.Port.{Port}
+use Rattle.value_type.specs.declared.poset.Types.{Types}
+use Rattle.design_model.specs.declared.design.CatRow.{CatRow}
+use Rattle.design_model.specs.declared.design.Design.{Design, fold_out-Design, map-Design}
+use Rattle.design_model.specs.declared.design.Design.TheOpen.{Design-F}
+use Rattle.design_model.specs.declared.design.Design.TheVariants.{Cat, Choice, Net, outs-Cat, outs-Choice, outs-Net}
+use Rattle.design_model.specs.declared.design.Part.{Part, fold-Part, fold_out-Part}
+use Rattle.design_model.specs.declared.expr.Constraint.{Constraint}
+use Rattle.design_model.specs.Heights.{Survey, survey, survey_step}
+
+abbrev pub of_part : Types → Part → Survey
+of_part t p = survey t p.design
+
+survey_of_part : (t : Types) (p : Part) → fold-Part Survey Survey (survey_step t) (λ p. p.design) p ≡ of_part t p
+survey_of_part t p = fold_out-Part Survey Survey (survey_step t) (λ p. p.design) p
+
+pub survey-Cat : (t : Types) (provides requires_ : List Port) (rows : List CatRow) → survey t (Cat provides requires_ rows) ≡ survey_step t (Design-F.Cat provides requires_ rows)
+survey-Cat t provides requires_ rows = fold_out-Design Survey Survey (survey_step t) (λ p. p.design) (Cat provides requires_ rows)
+    ∙ ap (λ (x : Design-F Design Part). survey_step t (map-Design Design Part Survey Survey (survey t) (fold-Part Survey Survey (survey_step t) (λ p. p.design)) x)) (outs-Cat provides requires_ rows)
+
+pub survey-Choice : (t : Types) (provides requires_ : List Port) (branches : List Part)
+    → survey t (Choice provides requires_ branches) ≡ survey_step t (Design-F.Choice provides requires_ (map (of_part t) branches))
+survey-Choice t provides requires_ branches = fold_out-Design Survey Survey (survey_step t) (λ p. p.design) (Choice provides requires_ branches)
+    ∙ ap (λ (x : Design-F Design Part). survey_step t (map-Design Design Part Survey Survey (survey t) (fold-Part Survey Survey (survey_step t) (λ p. p.design)) x)) (outs-Choice provides requires_ branches)
+    ∙ (λ i. survey_step t (Design-F.Choice provides requires_ (map (λ p. survey_of_part t p i) branches)))
+
+pub survey-Net : (t : Types) (provides requires_ : List Port) (parts : List Part) (constraints : List Constraint)
+    → survey t (Net provides requires_ parts constraints) ≡ survey_step t (Design-F.Net provides requires_ (map (of_part t) parts) constraints)
+survey-Net t provides requires_ parts constraints = fold_out-Design Survey Survey (survey_step t) (λ p. p.design) (Net provides requires_ parts constraints)
+    ∙ ap (λ (x : Design-F Design Part). survey_step t (map-Design Design Part Survey Survey (survey t) (fold-Part Survey Survey (survey_step t) (λ p. p.design)) x)) (outs-Net provides requires_ parts constraints)
+    ∙ (λ i. survey_step t (Design-F.Net provides requires_ (map (λ p. survey_of_part t p i) parts) constraints))

@@ -1,0 +1,92 @@
+-- Steady nets, and what a tight step asks of the parts.
+use Rattle.std.specs.Prelude.{◌≡◌, ℕ, zero, suc, IsTrue, IsSomeAnd, List, [], ◌∷◌, Some, slice_get, ◌⊎◌}
+use Rattle.order_core.specs.Chains.{IsSteady}
+use Rattle.order_core.specs.Members.{IsMember}
+use Rattle.value_type.specs.declared.port.Port.{Port}
+use Rattle.value_type.specs.declared.poset.Types.{Types}
+use Rattle.value_type.specs.Fits.{row_fits}
+use Rattle.value_type.specs.Leq.{row_leq}
+use Rattle.value_type.specs.PortKinds.{port_kinds}
+use Rattle.design_model.specs.declared.design.Design.{Design}
+use Rattle.design_model.specs.declared.design.Design.TheVariants.{Net}
+use Rattle.design_model.specs.declared.design.Part.{Part}
+use Rattle.design_model.specs.declared.expr.Constraint.{Constraint}
+use Rattle.design_model.specs.Cuts.{cut_signals}
+use Rattle.design_model.specs.Evaluation.{is_into}
+use Rattle.design_model.specs.Parts.{provided_ports}
+use Rattle.design_model.specs.Rounds.{EachFeasible, Ends, EndsLeast, IsFeasibleIn, IsMinimumIn}
+use Rattle.design_model.specs.Rows.{Row}
+use Rattle.design_model.specs.Step.{is_state, state_leq, own_values, step_reads, StepsBy, Steps}
+use Rattle.design_model.specs.Wiring.{Wiring, wiring_of, Carried, Satisfied}
+
+-- A net: its own ports, its parts and its constraints.
+pub record NetOf : Type 0 where
+  pub provides : List Port
+  pub requires_ : List Port
+  pub parts : List Part
+  pub constraints : List Constraint
+
+abbrev pub net_of : List Port → List Port → List Part → List Constraint → NetOf
+net_of provides requires_ parts constraints = record { provides = provides; requires_ = requires_; parts = parts; constraints = constraints }
+
+abbrev pub design_of : NetOf → Design
+design_of net = Net net.provides net.requires_ net.parts net.constraints
+
+abbrev pub wiring : NetOf → Wiring
+wiring net = wiring_of (λ p. p) net.provides net.requires_ net.parts net.constraints
+
+-- Each part is feasible in n rounds at what it carries.
+abbrev pub MayCarryIn : Types → ℕ → NetOf → List Carried → Type 0
+MayCarryIn t n net = EachFeasible (λ p. IsFeasibleIn t n p.design) net.parts
+
+-- the rows that the parts carry, with another provided row for one part
+abbrev pub with_provided : ℕ → Row → List Carried → List Carried
+with_provided i row [] = []
+with_provided zero row (c ∷ carried) = record { provided = row; required = c.required } ∷ carried
+with_provided (suc i) row (c ∷ carried) = c ∷ with_provided i row carried
+
+-- Of a net in n rounds at the functionality f:
+module _ (t : Types) (n : ℕ) (net : NetOf) (f : Row) where
+  -- A step leads from the first state to the second by these rows of the parts.
+  abbrev pub StepsInBy : Row → Row → List Carried → Type 0
+  StepsInBy = StepsBy t (wiring net) (MayCarryIn t n net) f
+
+  abbrev pub StepsIn : Row → Row → Type 0
+  StepsIn = Steps t (wiring net) (MayCarryIn t n net) f
+
+  -- The state ends a chain of k steps.
+  abbrev pub EndsIn : ℕ → Row → Type 0
+  EndsIn = Ends t (wiring net) (MayCarryIn t n net) f
+
+  -- It does, and no other state that does is at most it.
+  abbrev pub EndsLeastIn : ℕ → Row → Type 0
+  EndsLeastIn = EndsLeast t (wiring net) (MayCarryIn t n net) f
+
+  -- The last round brings nothing new: each end of a chain of n - 1 steps ends one of n steps.
+  abbrev pub LastRoundIsSteady : ℕ → Type 0
+  LastRoundIsSteady zero = ⊥
+  LastRoundIsSteady (suc k) = IsSteady (is_state t (wiring net)) (state_leq t (wiring net)) StepsIn k
+
+  -- The net is steady: it has no cut signal, or the last round brings nothing new.
+  abbrev pub IsSteadyIn : Type 0
+  IsSteadyIn = (cut_signals (wiring net) ≡ []) ⊎ LastRoundIsSteady n
+
+  -- Each constraint into the part holds in the step with this provided row in place of the part's own.
+  abbrev pub KeepsInto : Row → Row → List Carried → ℕ → Row → Type 0
+  KeepsInto before after carried i row = (c : Constraint) → IsMember c net.constraints → IsTrue (is_into i c.greater)
+      → Satisfied t (wiring net) (own_values (wiring net) after) (with_provided i row carried) (step_reads (wiring net) f before carried c.greater) c
+
+  -- The step asks no more of the part than its constraints want, and the part answers with a minimum.
+  pub record IsTightAt (before after : Row) (carried : List Carried) (i : ℕ) (p : Part) (c : Carried) : Type 0 where
+    pub least : (row : Row) → IsTrue (row_fits t (port_kinds (provided_ports p.design)) row) → IsTrue (row_leq t (port_kinds (provided_ports p.design)) row c.provided)
+        → KeepsInto before after carried i row → row ≡ c.provided
+    pub answer : IsMinimumIn t n p.design c.provided c.required
+
+  -- It is a step by these rows, and tight at each part.
+  pub record IsTight (before after : Row) (carried : List Carried) : Type 0 where
+    pub steps : StepsInBy before after carried
+    pub tight : (i : ℕ) (p : Part) (c : Carried) → slice_get net.parts i ≡ Some p → slice_get carried i ≡ Some c → IsTightAt before after carried i p c
+
+  -- A step from the state to itself asks the part of this number for this row. Only tight steps ask.
+  abbrev pub Asks : Row → ℕ → Row → Type 0
+  Asks state i row = (carried : List Carried) × IsTight state state carried × IsSomeAnd (slice_get carried i) (λ c. c.provided ≡ row)

@@ -1,0 +1,28 @@
+use crate::witness::Witness;
+use order_core::List;
+use value_type::Row;
+
+/// A row of required values, and how the design is made for it, where that is known.
+#[derive(Drop)]
+pub struct Point {
+    pub at: Row,
+    pub witness: Option<Witness>,
+}
+
+/// A net that is not steady in the rounds that were given.
+#[derive(Drop)]
+pub struct Unsteady {
+    /// The numbers of the branches and parts that lead to it.
+    pub path: List<u32>,
+    /// What it is asked to provide.
+    pub at: Row,
+    /// One of its states that a further round changes.
+    pub state: Row,
+}
+
+/// The least resources for a query, as far as the rounds tell.
+#[derive(Drop)]
+pub struct Solved {
+    pub points: List<Point>,
+    pub unsteady: Option<Unsteady>,
+}
