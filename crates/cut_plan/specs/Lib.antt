@@ -1,0 +1,16 @@
+pub mod ColumnLaws
+pub mod CutLaws
+pub mod CutReads
+pub mod Cutting
+pub mod Nets
+pub mod MostLaws
+pub mod NetHeights
+pub mod Different
+pub mod OrderLaws
+pub mod ReadLaws
+pub mod Reads
+pub mod SignalLaws
+pub mod SumLaws
+pub mod Totals
+pub mod TurnLaws
+pub mod Turns
