@@ -1,0 +1,5 @@
+use Rattle.model_laws.specs.RoundsMonotone.{feasible_in_eased}
+use Rattle.model_laws.proofs.rounds.rounds_are_monotone.Goals as goal
+
+pub returns : goal.returns
+returns c = feasible_in_eased

@@ -1,0 +1,17 @@
+pub mod Acyclic
+pub mod AlikeLaws
+pub mod Cycles
+pub mod ExprMonotone
+pub mod FeasibleRounds
+pub mod GatheredLaws
+pub mod HoldsMonotone
+pub mod NetLaws
+pub mod ReadingLaws
+pub mod RoundsMonotone
+pub mod SatisfiedLaws
+pub mod Settled
+pub mod SignalLaws
+pub mod StateLaws
+pub mod SteadyLaws
+pub mod StepLaws
+pub mod ValuesLeq
