@@ -10,26 +10,26 @@ abbrev pub late_at : ℕ → Option ℕ → Bool
 late_at at None = false
 late_at at (Some owner) = nat_le at owner
 
--- A part at this place reads the signal by a cut read, where the parts have these places.
+-- A read of the signal by a part at this place is a cut read, given each part's place.
 abbrev pub is_late : List ℕ → ℕ → Signal → Bool
 is_late places at s = late_at at (slice_get places s.part)
 
--- what is read by cut reads, given what is read by parts at these places
+-- the cut reads among what each part reads, given the parts' places
 abbrev pub late_reads : List ℕ → List (List Signal) → List ℕ → List Signal
 late_reads places [] ats = []
 late_reads places (signals ∷ table) [] = []
 late_reads places (signals ∷ table) (at ∷ ats) = filter (is_late places at) signals ++ late_reads places table ats
 
--- The port is one of those that are read by cut reads.
+-- The port stands in the list of cut reads.
 abbrev pub is_listed : List Signal → ℕ → ℕ → Bool
 is_listed cut part port = list_any (λ (s : Signal). (s.part == part) && (s.port == port)) cut
 
--- of n ports from this one on, those that are listed
+-- the listed ones among n ports of a part, from this port on
 abbrev pub listed_ports : List Signal → ℕ → ℕ → ℕ → List Signal
 listed_ports cut part port zero = []
 listed_ports cut part port (suc n) = cond (is_listed cut part port) (record { part = part; port = port } ∷ listed_ports cut part (port + 1) n) (listed_ports cut part (port + 1) n)
 
--- of the required ports of the parts, those that are listed, where the parts are counted from this number on
+-- the listed ones among the required ports of the parts, whose numbers begin with `start`
 abbrev pub listed_signals : List Signal → ℕ → List Part → List Signal
 listed_signals cut start [] = []
 listed_signals cut start (p ∷ parts) = listed_ports cut start 0 (length (required_ports p.design)) ++ listed_signals cut (start + 1) parts

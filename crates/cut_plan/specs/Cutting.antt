@@ -6,7 +6,7 @@ use Rattle.design_model.specs.declared.expr.Constraint.{Constraint}
 use Rattle.design_model.specs.Cuts.{Signal as Typed, is_cut}
 use Rattle.design_model.specs.Wiring.{Wiring}
 
--- In a net of so many parts with these constraints a port of a part is cut exactly where it is listed.
+-- In a net with `count` parts and these constraints the list has exactly the ports with a cut read.
 abbrev pub ListsCuts : List Constraint → ℕ → List Signal → Type 0
 ListsCuts constraints count cut =
     (net : Wiring) → net.constraints ≡ constraints → length net.provided ≡ count → (s : Typed) → s.part < count → is_cut net s ≡ is_listed cut s.part s.port

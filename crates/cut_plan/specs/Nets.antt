@@ -22,11 +22,11 @@ abbrev pub net_at : Design-F Design Part → NetOf
 net_at (Design-F.Net provides requires_ parts constraints) = net_of provides requires_ parts constraints
 net_at _ = net_of [] [] [] []
 
--- the net that the design is, and one of nothing if it isn't any
+-- the design as a net; an empty net where it is none
 abbrev pub net_in : Design → NetOf
 net_in d = net_at (out-Design d)
 
--- The required ports of the part can be counted in 32 bits.
+-- The part has fewer than 2^32 required ports.
 abbrev pub HasFewPorts : Part → Type 0
 HasFewPorts p = IsFew (required_ports p.design)
 

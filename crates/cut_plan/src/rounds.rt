@@ -18,9 +18,9 @@ use order_core::{List, NoMemory};
 use std::alloc::Global;
 use value_type::{Kind, Types};
 
-/// How many rounds are enough to solve the design, or the greatest number of 64 bits if that is less.
+/// How many rounds are enough to solve the design. A number above the greatest of 64 bits is answered as that one.
 ///
-/// None are known to be enough where a number loops through a part that isn't made of catalogues and choices alone.
+/// There is no answer exactly where, in some net, a cut signal has a number in it and belongs to a part with a net inside.
 #[cycle(rounds_enough)]
 pub fn rounds_enough(alloc: Global, types: &Types, design: &Design) -> Result<Option<u64>, NoMemory>
     ensures { IfOk result (λ found. found ≡ option_map (λ n. min n (2 ^ 64 - 1)) (enough_rounds types.now design.now)) }
@@ -105,9 +105,9 @@ fn heights_of_ports(
     ensures { IfOk result (λ found. found ≡ clipped (sum_all (port_heights types.now design.now listed.now number 0 (required_ports design.now)))) }
 {
     let mut total: u64 = 0;
-    for (port, of) in design.requires_().iter().enumerate() {
+    for (port, declared) in design.requires_().iter().enumerate() {
         let is_cut = is_listed(listed, number, port);
-        let Some(height) = height_if(alloc, types, design, is_cut, port, &of.kind)? else {
+        let Some(height) = height_if(alloc, types, design, is_cut, port, &declared.kind)? else {
             return Ok(None);
         };
         total = total.saturating_add(height);

@@ -56,6 +56,6 @@ kind_step t ports (Expr-F.Greatest a b) k = is_number_kind k && (a k && b k)
 kind_step t ports (Expr-F.Lesser a b) k = is_number_kind k && (a k && b k)
 kind_step t ports (Expr-F.Tuple parts) k = parts_are parts (out-Kind k)
 
--- The expression is typed, and of this type, all number types taken as one: it reads ports that are there, makes numbers of numbers, and tuples of parts of the right types.
+-- The expression is typed, and of this type, all number types taken as one: each port that it reads is there, each constant fits, operations on numbers get numbers, and a tuple's parts have the types of the product's.
 abbrev pub is_of_kind : Types → PortTypes → Expr → Kind → Bool
 is_of_kind t ports = fold-Expr (Kind → Bool) (kind_step t ports)

@@ -67,11 +67,11 @@ height_step t (Kind-F.Prod heights) values = sum_all (part_heights 0 heights val
 height_step t (Kind-F.Up k) values = option_map size (slice_get t.posets k)
 
 -- The height of a port of this type: of a poset's elements their number less one, of its upper sets their number, and of tuples the sum over the parts.
--- Of numbers it is how many different ones besides zero the port's values have; it has none where these values aren't known.
+-- Of a number it is how many different numbers besides zero are among the values; there is none where the values aren't known.
 abbrev pub height : Types → Kind → Option (List Value) → Option ℕ
 height t = fold-Kind (Option (List Value) → Option ℕ) (height_step t)
 
--- What counts of a design: the types of its ports, the rows of its catalogues if it is made of catalogues and choices alone, and how many rounds are enough.
+-- What the heights need to know of a design: the types of its ports, the rows of its catalogues if it is made of catalogues and choices alone, and how many rounds are enough.
 pub record Survey : Type 0 where
   pub provided : List Kind
   pub required : List Kind
@@ -96,7 +96,7 @@ values_at parts s = option_and_then (λ part. option_map (λ rows. filter_map (�
 abbrev pub net_height : Types → Wiring → List Survey → Option ℕ
 net_height t net parts = sum_all (map (λ s. height t s.kind (values_at parts s)) (cut_signals net))
 
--- the wiring of a net whose parts are known by these
+-- the wiring of a net whose parts are known by these; it is `wiring_of` the net
 abbrev pub surveyed : List Port → List Port → List Survey → List Constraint → Wiring
 surveyed provides requires_ parts constraints = record {
   provides = port_kinds provides;
@@ -124,6 +124,6 @@ survey_step t (Design-F.Net provides requires_ parts constraints) = record {
 abbrev pub survey : Types → Design → Survey
 survey t = fold-Design Survey Survey (survey_step t) (λ p. p.design)
 
--- So many rounds are enough: the greatest height of its nets, plus 2; none where a net has no height, and 1 where there is no net.
+-- How many rounds are enough: the greatest height of a net in the design, plus 2. There is no answer where a net has no height, and the answer is 1 where there is no net.
 abbrev pub enough_rounds : Types → Design → Option ℕ
 enough_rounds t design = (survey t design).enough

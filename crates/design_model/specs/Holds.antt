@@ -61,7 +61,7 @@ abbrev pub HoldsByParts : Types → Wiring → (List PartWitness → Type 0) →
 HoldsByParts t net EachHolds f r (Witness-F.Inner ws) = PartsHold t net EachHolds f r ws
 HoldsByParts t net EachHolds f r _ = ⊥
 
--- One level of a design. Y stands for its branches or parts, of which `part` gives the part and `holds_part` when it holds.
+-- One level of a design. X stands for the designs below and Y for the branches or parts: `part` gives the part that a Y is, and `holds_part` says when it holds.
 abbrev pub HoldsAt : Types → (X Y : Type 0) → (X → Design) → (Y → Part) → (X → Row → Row → Witness → Type 0) → (Y → Row → Row → Witness → Type 0)
     → Design-F X Y → Row → Row → Witness → Type 0
 HoldsAt t X Y design part holds holds_part (Design-F.Cat provides requires_ rows) f r w =

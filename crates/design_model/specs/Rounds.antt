@@ -19,7 +19,7 @@ use Rattle.design_model.specs.Wiring.{Wiring, wiring_of, Carried}
 abbrev pub Ends : Types → Wiring → (List Carried → Type 0) → Row → ℕ → Row → Type 0
 Ends t net MayCarry f = EndsChain (is_state t net) (state_leq t net) (Steps t net MayCarry f)
 
--- It does, and no other state that does is at most it.
+-- The state is minimal among those that end a chain of k steps.
 abbrev pub EndsLeast : Types → Wiring → (List Carried → Type 0) → Row → ℕ → Row → Type 0
 EndsLeast t net MayCarry f = IsLeastEnd (is_state t net) (state_leq t net) (Steps t net MayCarry f)
 
@@ -33,13 +33,15 @@ pub record SomeEnds (t : Types) (net : Wiring) (MayCarry : List Carried → Type
 abbrev pub EachFeasible : {Y : Type 0} → (Y → Row → Row → Type 0) → List Y → List Carried → Type 0
 EachFeasible feasible parts carried = Pointwise (λ part c. feasible part c.provided c.required) parts carried
 
+-- Some row provides at least f and requires at most r.
 abbrev pub SomeRow : Types → List Port → List Port → List CatRow → Row → Row → Type 0
 SomeRow t provides requires_ rows f r = (number : ℕ) × IsSomeAnd (slice_get rows number) (RowHolds t provides requires_ f r)
 
+-- Some branch is feasible at f and r.
 abbrev pub SomeBranch : {Y : Type 0} → (Y → Row → Row → Type 0) → List Y → Row → Row → Type 0
 SomeBranch feasible branches f r = (number : ℕ) × IsSomeAnd (slice_get branches number) (λ branch. feasible branch f r)
 
--- One level of a design. Y stands for its branches or parts, of which `part` gives the part and `feasible_part` at which rows it is feasible.
+-- One level of a design. X stands for the designs below and Y for the branches or parts: `part` gives the part that a Y is, and `feasible_part` says at which rows it is feasible.
 abbrev pub FeasibleAt : Types → ℕ → (X Y : Type 0) → (X → Design) → (Y → Part) → (X → Row → Row → Type 0) → (Y → Row → Row → Type 0)
     → Design-F X Y → Row → Row → Type 0
 FeasibleAt t n X Y design part feasible feasible_part (Design-F.Cat provides requires_ rows) f r =
@@ -53,7 +55,7 @@ abbrev pub FeasibleAtPart : (X Y : Type 0) → (X → Design) → (Y → Part) �
     → Part-F X Y → Row → Row → Type 0
 FeasibleAtPart X Y design part feasible feasible_part p = feasible p.design
 
--- In n rounds the resources r are feasible for the functionality f: a row of a catalogue or a branch of a choice says so, or a chain of n steps of a net ends with these resources.
+-- In n rounds the resources r are feasible for the functionality f. Both fit. A row of a catalogue provides f within r, a branch of a choice is feasible so, or a chain of n steps of a net ends with r at the own required ports.
 unfoldable pub IsFeasibleIn : Types → ℕ → Design → Row → Row → Type 0
 IsFeasibleIn t n = rec-Design (Row → Row → Type 0) (Row → Row → Type 0) (FeasibleAt t n) FeasibleAtPart
 

@@ -10,7 +10,7 @@ use Rattle.design_model.specs.Rows.{Row}
 use Rattle.design_model.specs.Steady.{NetOf, net_of, wiring, StepsIn, EndsLeastIn, Asks}
 use Rattle.design_model.specs.Step.{own_values}
 
--- It is a least end of one step fewer as well.
+-- The state is also a least end of chains of n - 1 steps.
 abbrev pub EndsLeastBefore : Types → ℕ → NetOf → Row → ℕ → Row → Type 0
 EndsLeastBefore t n net f zero state = ⊥
 EndsLeastBefore t n net f (suc k) state = EndsLeastIn t n net f k state
@@ -27,7 +27,7 @@ pub record ShownBy (t : Types) (n : ℕ) (net : NetOf) (f r : Row) (ShownAt : �
 abbrev pub PartShows : {Y : Type 0} → (Y → Row → Row → Type 0) → List Y → ℕ → Row → Row → Type 0
 PartShows shows parts i row answer = IsSomeAnd (slice_get parts i) (λ part. shows part row answer)
 
--- One level of a design. Y stands for its branches or parts, of which `part` gives the part and `shows_part` which of its minima are shown.
+-- One level of a design. X stands for the designs below and Y for the branches or parts: `part` gives the part that a Y is, and `shows_part` says which of its minima are shown.
 abbrev pub ShowsAt : Types → ℕ → (X Y : Type 0) → (X → Design) → (Y → Part) → (X → Row → Row → Type 0) → (Y → Row → Row → Type 0)
     → Design-F X Y → Row → Row → Type 0
 ShowsAt t n X Y design part shows shows_part (Design-F.Cat provides requires_ rows) f r = Unit {0}

@@ -58,16 +58,16 @@ module _ (t : Types) (n : ℕ) (net : NetOf) (f : Row) where
   abbrev pub EndsIn : ℕ → Row → Type 0
   EndsIn = Ends t (wiring net) (MayCarryIn t n net) f
 
-  -- It does, and no other state that does is at most it.
+  -- The state is minimal among those that end a chain of k steps.
   abbrev pub EndsLeastIn : ℕ → Row → Type 0
   EndsLeastIn = EndsLeast t (wiring net) (MayCarryIn t n net) f
 
-  -- The last round brings nothing new: each end of a chain of n - 1 steps ends one of n steps.
+  -- The last round loses nothing: each end of a chain of n - 1 steps also ends one of n steps.
   abbrev pub LastRoundIsSteady : ℕ → Type 0
   LastRoundIsSteady zero = ⊥
   LastRoundIsSteady (suc k) = IsSteady (is_state t (wiring net)) (state_leq t (wiring net)) StepsIn k
 
-  -- The net is steady: it has no cut signal, or the last round brings nothing new.
+  -- The net is steady: it has no cut signal, or its last round loses nothing.
   abbrev pub IsSteadyIn : Type 0
   IsSteadyIn = (cut_signals (wiring net) ≡ []) ⊎ LastRoundIsSteady n
 
@@ -76,9 +76,9 @@ module _ (t : Types) (n : ℕ) (net : NetOf) (f : Row) where
   KeepsInto before after carried i row = (c : Constraint) → IsMember c net.constraints → IsTrue (is_into i c.greater)
       → Satisfied t (wiring net) (own_values (wiring net) after) (with_provided i row carried) (step_reads (wiring net) f before carried c.greater) c
 
-  -- The step asks no more of the part than its constraints want, and the part answers with a minimum.
+  -- No other row at most the part's provided one, put in its place, satisfies all constraints into the part; and its required row is a minimum of n rounds.
   pub record IsTightAt (before after : Row) (carried : List Carried) (i : ℕ) (p : Part) (c : Carried) : Type 0 where
-    pub least : (row : Row) → IsTrue (row_fits t (port_kinds (provided_ports p.design)) row) → IsTrue (row_leq t (port_kinds (provided_ports p.design)) row c.provided)
+    pub minimal : (row : Row) → IsTrue (row_fits t (port_kinds (provided_ports p.design)) row) → IsTrue (row_leq t (port_kinds (provided_ports p.design)) row c.provided)
         → KeepsInto before after carried i row → row ≡ c.provided
     pub answer : IsMinimumIn t n p.design c.provided c.required
 

@@ -37,7 +37,7 @@ signal_value [] values part port = None
 signal_value (s ∷ signals) [] part port = None
 signal_value (s ∷ signals) (v ∷ values) part port = cond ((s.part == part) && (s.port == port)) (Some v) (signal_value signals values part port)
 
--- What a constraint with this greater side reads in a step: by a cut read, what the state before gives the signal; by any other read, what the part carries.
+-- What a constraint with this greater side reads in a step: by a cut read, what the state before gives the signal; by any other read, what the part carries. Own provided ports carry f.
 abbrev pub step_reads : Wiring → Row → Row → List Carried → Greater → Reads
 step_reads net f before carried into = record {
   own = slice_get f;
@@ -48,7 +48,7 @@ step_reads net f before carried into = record {
 abbrev pub IsCovered : Types → List Carried → Signal → Value → Type 0
 IsCovered t carried s v = IsSomeAnd (port_at (required_rows carried) s.part s.port) (λ x. IsTrue (leq t s.kind x v))
 
--- In a net with this wiring, whose parts may carry these rows together, at the functionality f:
+-- In a net with this wiring, where `MayCarry` says which rows its parts may carry together, at the functionality f:
 module _ (t : Types) (net : Wiring) (MayCarry : List Carried → Type 0) (f : Row) where
   -- The parts carry these rows in a step from the state before to the state after: each part may, each constraint is satisfied, and each cut signal carries at most its value in the state after.
   pub record StepsBy (before after : Row) (carried : List Carried) : Type 0 where

@@ -1,7 +1,7 @@
 -- When a design is typed.
 use Rattle.std.specs.Prelude.{◌≡◌, ◌<◌, ◌^◌, Bool, true, ◌&&◌, IsTrue, is_some, List, length, map, Some, slice_get}
 use Rattle.std.specs.List.{list_all}
-use Rattle.order_core.specs.Pointwise.{Each}
+use Rattle.order_core.specs.Pointwise.{Each, Pointwise}
 use Rattle.value_type.specs.declared.kind.Kind.{Kind, fold-Kind}
 use Rattle.value_type.specs.declared.kind.Kind.TheOpen.{Kind-F}
 use Rattle.value_type.specs.declared.port.Port.{Port}
@@ -14,9 +14,19 @@ use Rattle.design_model.specs.declared.design.Design.{Design, rec-Design}
 use Rattle.design_model.specs.declared.design.Design.TheOpen.{Design-F, Part-F}
 use Rattle.design_model.specs.declared.design.Part.{Part}
 use Rattle.design_model.specs.declared.expr.Constraint.{Constraint}
+use Rattle.design_model.specs.declared.expr.Expr.{Expr}
 use Rattle.design_model.specs.ExprKinds.{is_of_kind}
 use Rattle.design_model.specs.Parts.{provided_ports, required_ports, rows_of}
-use Rattle.design_model.specs.Wiring.{Wiring, wiring_of, readable, greater_kind}
+use Rattle.design_model.specs.Rows.{Row}
+use Rattle.design_model.specs.Wiring.{Wiring, wiring_of, readable, greater_kind, kind_at}
+
+-- The expression is typed for these rows, and of this type: the own provided values and each part's required values fit types for which it is.
+pub record IsTypedFor (t : Types) (own : Row) (inner : List Row) (expr : Expr) (kind : Kind) : Type 0 where
+  pub own_kinds : List Kind
+  pub inner_kinds : List (List Kind)
+  pub own_fits : IsTrue (row_fits t own_kinds own)
+  pub inner_fit : Pointwise (λ kinds row. IsTrue (row_fits t kinds row)) inner_kinds inner
+  pub typed : IsTrue (is_of_kind t (record { own = slice_get own_kinds; inner = kind_at inner_kinds }) expr kind)
 
 -- one level of a type, with the answers of its parts in their place
 abbrev pub known_step : Types → Kind-F Bool → Bool
@@ -33,16 +43,16 @@ is_known t = fold-Kind Bool (known_step t)
 abbrev pub is_port : Types → Port → Bool
 is_port t port = is_known t port.kind && is_whole port
 
--- Its list can be counted in 32 bits.
+-- The list has fewer than 2^32 items.
 abbrev pub IsFew : {A : Type 0} → List A → Type 0
 IsFew xs = length xs < 2 ^ 32
 
--- There aren't too many ports, and each is one.
+-- There are fewer than 2^32 ports; the posets of each are there, and its unit has the form of its type.
 pub record ArePorts (t : Types) (ports : List Port) : Type 0 where
   pub few : IsFew ports
   pub each : IsTrue (list_all (is_port t) ports)
 
--- There is one value of each port's type.
+-- The row has one value of the right type for each provided and each required port.
 abbrev pub row_is_typed : Types → List Port → List Port → CatRow → Bool
 row_is_typed t provides requires_ row = row_fits t (port_kinds provides) row.provided && row_fits t (port_kinds requires_) row.required
 
@@ -83,7 +93,7 @@ pub record IsTypedNet (t : Types) (provides requires_ : List Port) (parts : List
   pub each_constraint : Each (ConstraintIsTyped t (wiring_of (λ p. p) provides requires_ parts constraints)) constraints
   pub typed : EachIsTyped
 
--- One level of a design. Y stands for its branches or parts, of which `part` gives the part and `typed_part` whether it is typed.
+-- One level of a design. X stands for the designs below and Y for the branches or parts: `part` gives the part that a Y is, and `typed_part` says whether it is typed.
 abbrev pub IsTypedAt : Types → (X Y : Type 0) → (X → Design) → (Y → Part) → (X → Type 0) → (Y → Type 0) → Design-F X Y → Type 0
 IsTypedAt t X Y design part typed typed_part (Design-F.Cat provides requires_ rows) = IsTypedCat t provides requires_ rows
 IsTypedAt t X Y design part typed typed_part (Design-F.Choice provides requires_ branches) = IsTypedChoice t provides requires_ (map part branches) (Each typed_part branches)

@@ -74,6 +74,6 @@ value_step (Expr-F.Greatest a b) reads = of_two greater_of (number_in (a reads))
 value_step (Expr-F.Lesser a b) reads = of_two lesser_of (number_in (a reads)) (number_in (b reads))
 value_step (Expr-F.Tuple parts) reads = tuple_of (together parts reads)
 
--- What the expression is worth. It is worth nothing where it reads a port that isn't there, or makes a number of what is none.
+-- The value of the expression. It has none where it reads a port that isn't there, or where an operation on numbers gets a value that is no number.
 abbrev pub value_of : Expr → Reads → Option Value
 value_of = fold-Expr (Reads → Option Value) value_step

@@ -16,7 +16,7 @@ pub struct Unsteady {
     pub path: List<u32>,
     /// What it is asked to provide.
     pub at: Row,
-    /// One of its states that a further round changes.
+    /// A state that ends a chain of one step fewer than the rounds, and none of as many.
     pub state: Row,
 }
 

@@ -12,7 +12,7 @@ use value_type::{Row, Value};
 
 /// The value of the expression where the own provided ports carry `own` and each part's required ports carry its row of `inner`.
 ///
-/// It is there for a typed expression.
+/// It is there for an expression that is typed for these rows.
 pub fn value_of(alloc: Global, expr: &Expr, own: &Row, inner: &List<Row>) -> Result<Value, NoMemory>
     requires { IsSome (value_of expr.now (reads_of own.now inner.now)) }
     ensures { IfOk result (λ made. Some made ≡ value_of expr.now (reads_of own.now inner.now)) }

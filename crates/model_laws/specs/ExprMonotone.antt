@@ -1,5 +1,5 @@
 -- An expression of a type is worth a value of it, which is no less where what it reads is no less.
-use Rattle.std.specs.Prelude.{◌≡◌, ℕ, Bool, true, false, ◌||◌, ◌&&◌, ◌==◌, IsTrue, List, [], ◌∷◌, map, Option, Some, None}
+use Rattle.std.specs.Prelude.{◌≡◌, ℕ, Bool, true, false, ◌||◌, ◌&&◌, ◌==◌, IsTrue, List, [], ◌∷◌, map, slice_get, Option, Some, None}
 use Rattle.std.specs.List.{list_any}
 use Rattle.std.proofs.Common.{refl, sym, ap, subst, ◌∙◌, arith}
 use Rattle.std.proofs.lemmas.Bool.Decides.{nat_tests}
@@ -30,9 +30,12 @@ use Rattle.design_model.specs.ExprKinds.{PortTypes, is_of_kind, is_alike_to, is_
 use Rattle.design_model.specs.ExprLaws as laws
 use Rattle.design_model.specs.NumberLaws.{number_back}
 use Rattle.design_model.specs.Reading.{reads_port}
-use Rattle.design_model.specs.ValueOf.{Reads, value_of, number_in, of_one, of_two, together, tuple_of}
+use Rattle.design_model.specs.Rows.{Row}
+use Rattle.design_model.specs.Typed.{IsTypedFor}
+use Rattle.design_model.specs.Wiring.{kind_at}
+use Rattle.design_model.specs.ValueOf.{Reads, reads_of, value_of, number_in, of_one, of_two, together, tuple_of}
 use Rattle.model_laws.specs.AlikeLaws.{alike_same}
-use Rattle.model_laws.specs.ValuesLeq.{ValuesLeq, itself, transposed}
+use Rattle.model_laws.specs.ValuesLeq.{ValuesLeq, FitsAt, itself, transposed, row_at, part_row_at}
 
 -- What the ports of known types carry in the first reading is at most what they carry in the second. Of the parts' ports that is said of those that pass the test alone.
 pub record ReadsLeq (t : Types) (ports : PortTypes) (promised : ℕ → ℕ → Bool) (low high : Reads) : Type 0 where
@@ -256,3 +259,12 @@ module _ (t : Types) (ports : PortTypes) (promised : ℕ → ℕ → Bool) (low 
   -- The value is there in both readings, and in the first it is at most what it is in the second.
   pub value_rises : (e : Expr) → IsPromised e → (k : Kind) → IsTrue (is_of_kind t ports e k) → ValuesLeq t k (value_of e low) (value_of e high)
   value_rises = ind-Expr Claim (λ x y is. subst (λ z. Claim (roll-Expr z)) is (at y))
+
+-- An expression that is typed for rows has a value of its type there.
+pub typed_value : (t : Types) (own : Row) (inner : List Row) (e : Expr) (k : Kind) → IsTypedFor t own inner e k → FitsAt t k (value_of e (reads_of own inner))
+typed_value t own inner e k h =
+    let v = value_rises t (record { own = slice_get h.own_kinds; inner = kind_at h.inner_kinds }) (λ i j. true) (reads_of own inner) (reads_of own inner) (record {
+      own = λ j a q. itself t a _ (row_at t h.own_kinds own j a h.own_fits q);
+      inner = λ i j a p q. itself t a _ (part_row_at t h.inner_kinds inner i j a h.inner_fit q);
+    }) e (λ i j q. refl) k h.typed in
+    record { value = v.low; is = v.low_is; fits_kind = v.low_fits }

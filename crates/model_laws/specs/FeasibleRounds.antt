@@ -39,7 +39,7 @@ use Rattle.model_laws.specs.HoldsMonotone.{each_fits}
 use Rattle.model_laws.specs.SatisfiedLaws.{CarriedFits, carried_fits, greater_rises, satisfied_rises}
 use Rattle.model_laws.specs.SignalLaws.{cut_in_place, is_cut_signal}
 use Rattle.model_laws.specs.StateLaws.{join_fits, join_take, join_drop}
-use Rattle.model_laws.specs.StepLaws.{states_in_order, steps_monotone}
+use Rattle.model_laws.specs.StepLaws.{states_in_order}
 use Rattle.model_laws.specs.RoundsMonotone.{feasible_carried_fits}
 use Rattle.model_laws.specs.ValuesLeq.{ValuesLeq, itself, row_at, part_row_at}
 
@@ -104,7 +104,7 @@ module _ (t : Types) (n : ℕ) where
       → SomeEnds t (wiring_of (λ p. p) provides requires_ parts constraints) (EachFeasible (λ p. IsFeasibleIn t n p.design) parts) f n r
   steps_to_itself provides requires_ parts constraints f r ws typed fit hold feasible = record {
     state = state;
-    ends = stands_still (is_state t net) (state_leq t net) (Steps t net MayCarry f) (states_in_order t net) (steps_monotone t net MayCarry typed may_fit f fit.provided) n state is (map carried_by ws, step);
+    ends = stands_still (is_state t net) (state_leq t net) (Steps t net MayCarry f) (λ x y v by. by.1.after_is) (states_in_order t net).reflexive n state is (map carried_by ws, step);
     own = own_is;
   }
     where

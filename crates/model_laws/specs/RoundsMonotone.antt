@@ -99,7 +99,7 @@ module _ (t : Types) (n : ℕ) where
           let order = states_in_order t net in
           let monotone_f = steps_monotone t net MayCarry is.each_constraint may_fit f fit.provided in
           let monotone_g = steps_monotone t net MayCarry is.each_constraint may_fit g eases.fit.provided in
-          let old_is = ends_are_states (is_state t net) (state_leq t net) (Steps t net MayCarry f) order monotone_f n some.state some.ends in
+          let old_is = ends_are_states (is_state t net) (state_leq t net) (Steps t net MayCarry f) monotone_f.states n some.state some.ends in
           let cuts = cut_fits t net some.state old_is in
           let own : IsTrue (row_leq t net.requires_ (own_values net some.state) s) = rw some.own eases.more in
           let new_is = join_fits t (cut_signals net) net.requires_ (cut_values net some.state) s cuts eases.fit.required in

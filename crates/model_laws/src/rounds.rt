@@ -1,6 +1,6 @@
 //! What holds of steps, chains and rounds.
 
-ghost use Rattle.std.specs.Prelude.{◌≡◌, ◌+◌, ℕ, IsTrue, List, []};
+ghost use Rattle.std.specs.Prelude.{◌≡◌, ◌+◌, ℕ, IsTrue, List, [], map};
 ghost use Rattle.order_core.specs.Chains.{IsMonotone, IsSteady};
 ghost use Rattle.value_type.specs.declared.poset.Types.{Types};
 ghost use Rattle.value_type.specs.Fits.{row_fits};
@@ -15,7 +15,12 @@ ghost use Rattle.design_model.specs.Rows.{Row};
 ghost use Rattle.design_model.specs.Steady.{NetOf, design_of, wiring, StepsIn, StepsInBy, EndsIn, EndsLeastIn, IsSteadyIn};
 ghost use Rattle.design_model.specs.Step.{is_state, state_leq, own_values};
 ghost use Rattle.design_model.specs.Typed.{IsTyped};
-ghost use Rattle.design_model.specs.Wiring.{Carried};
+ghost use Rattle.design_model.specs.Wiring.{Carried, wiring_of};
+ghost use Rattle.design_model.specs.Heights.{surveyed};
+ghost use Rattle.design_model.specs.HeightsLaws.{of_part};
+ghost use Rattle.design_model.specs.declared.design.Part.{Part};
+ghost use Rattle.design_model.specs.declared.expr.Constraint.{Constraint};
+ghost use Rattle.value_type.specs.declared.port.Port.{Port};
 ghost use Rattle.model_laws.specs.Acyclic.{ReadsItself};
 ghost use Rattle.model_laws.specs.HoldsMonotone.{Eases};
 ghost use Rattle.model_laws.specs.Settled.{AreFeasible};
@@ -26,7 +31,7 @@ pub fn rounds_are_monotone()
         → IsFeasibleIn t n d f r → IsFeasibleIn t n d g s }
 {}
 
-/// Steps lead to states. From a greater state they lead to nothing that they don't lead to from a lesser one, and what is above a state that they lead to they lead to as well.
+/// Steps lead to states. What a greater state steps to, a lesser one steps to as well. A state steps to all states above one that it steps to.
 pub fn steps_are_monotone()
     ensures { (t : Types) (n : ℕ) (net : NetOf) (f : Row) → IsTyped t (design_of net) → IsTrue (row_fits t (port_kinds net.provides) f)
         → IsMonotone (is_state t (wiring net)) (state_leq t (wiring net)) (StepsIn t n net f) }
@@ -36,15 +41,13 @@ pub fn steps_are_monotone()
 pub fn chains_fall_and_rise()
     ensures rise { (t : Types) (n : ℕ) (net : NetOf) (f : Row) → IsTyped t (design_of net) → IsTrue (row_fits t (port_kinds net.provides) f)
         → (k : ℕ) (s u : Row) → EndsIn t n net f k s → IsTrue (is_state t (wiring net) u) → IsTrue (state_leq t (wiring net) s u) → EndsIn t n net f k u }
-    ensures fall { (t : Types) (n : ℕ) (net : NetOf) (f : Row) → IsTyped t (design_of net) → IsTrue (row_fits t (port_kinds net.provides) f)
-        → (k : ℕ) (s : Row) → EndsIn t n net f (k + 1) s → EndsIn t n net f k s }
+    ensures fall { (t : Types) (n : ℕ) (net : NetOf) (f : Row) (k : ℕ) (s : Row) → EndsIn t n net f (k + 1) s → EndsIn t n net f k s }
 {}
 
 /// A least end that also ends a longer chain steps to itself, and is a least end of all longer chains.
 pub fn least_ends_settle()
     ensures steps { (t : Types) (n : ℕ) (net : NetOf) (f : Row) (k : ℕ) (s : Row) → EndsLeastIn t n net f k s → EndsIn t n net f (k + 1) s → StepsIn t n net f s s }
-    ensures stays { (t : Types) (n : ℕ) (net : NetOf) (f : Row) → IsTyped t (design_of net) → IsTrue (row_fits t (port_kinds net.provides) f)
-        → (k more : ℕ) (s : Row) → EndsLeastIn t n net f k s → EndsIn t n net f (k + 1) s → EndsLeastIn t n net f (more + k) s }
+    ensures stays { (t : Types) (n : ℕ) (net : NetOf) (f : Row) (k more : ℕ) (s : Row) → EndsLeastIn t n net f k s → EndsIn t n net f (k + 1) s → EndsLeastIn t n net f (more + k) s }
 {}
 
 /// What is feasible is feasible in every number of rounds.
@@ -63,9 +66,15 @@ pub fn nets_without_loops_have_no_cut_signals()
     ensures { (net : NetOf) → ((p : ℕ) → ReadsItself (part_reads net.constraints) p → ⊥) → cut_signals (wiring net) ≡ [] }
 {}
 
-/// A net without cut signals is steady in every number of rounds. One step brings everything that any number of steps does.
+/// A net without cut signals is steady in every number of rounds. What ends a chain of one step ends chains of any number of steps.
 pub fn nets_without_cut_signals_are_steady()
     ensures steady { (t : Types) (n : ℕ) (net : NetOf) (f : Row) → cut_signals (wiring net) ≡ [] → IsSteadyIn t n net f }
-    ensures at_once { (t : Types) (n : ℕ) (net : NetOf) (f : Row) → IsTyped t (design_of net) → IsTrue (row_fits t (port_kinds net.provides) f) → cut_signals (wiring net) ≡ []
+    ensures at_once { (t : Types) (n : ℕ) (net : NetOf) (f : Row) → cut_signals (wiring net) ≡ []
         → (k : ℕ) → IsSteady (is_state t (wiring net)) (state_leq t (wiring net)) (StepsIn t n net f) (k + 1) }
+{}
+
+/// The wiring that the height of a net goes by is that of the net.
+pub fn heights_go_by_the_wiring()
+    ensures { (t : Types) (provides requires_ : List Port) (parts : List Part) (constraints : List Constraint)
+        → surveyed provides requires_ (map (of_part t) parts) constraints ≡ wiring_of (λ p. p) provides requires_ parts constraints }
 {}

@@ -1,4 +1,4 @@
--- What holds of each item of a list, or of each two partners in lists of one length.
+-- What holds of each item of a list, or of each pair of partners in two lists of the same length.
 use Rattle.std.specs.Prelude.{◌≡◌, ℕ, zero, suc, ◌+◌, ◌<◌, ◌≤◌, ◌↔◌, List, [], ◌∷◌, map, length, drop, slice_get, IsSomeAnd, Some}
 use Rattle.std.proofs.Common.{refl, ap, sym, subst, get_or, arith, inl, inr}
 use Rattle.std.proofs.lemmas.List.{drop_more, drop_all}
@@ -9,7 +9,7 @@ abbrev pub Each : {A : Type 0} → (A → Type 0) → List A → Type 0
 Each P [] = Unit {0}
 Each P (x ∷ xs) = P x × Each P xs
 
--- The lists are of one length, and each two partners are related.
+-- The lists are of the same length, and each pair of partners is related.
 abbrev pub Pointwise : {A B : Type 0} → (A → B → Type 0) → List A → List B → Type 0
 Pointwise R [] [] = Unit {0}
 Pointwise R [] (y ∷ ys) = ⊥

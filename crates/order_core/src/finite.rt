@@ -59,7 +59,7 @@ impl FiniteOrder {
         self.table.items().len() as u32
     }
 
-    /// Whether `a` is at most `b`. No number is at most one that is no element, or the other way round.
+    /// Whether `a` is at most `b`. A number that is no element is at most none.
     pub fn is_below(&self, a: u32, b: u32) -> bool
         ensures { result ≡ is_below self.now.table a b }
     {

@@ -1,0 +1,5 @@
+use Rattle.model_examples.specs.Batteries as example
+use Rattle.model_examples.proofs.examples.batteries_at_60.Goals as goal
+
+pub returns : goal.returns
+returns c = example.batteries_at_60
