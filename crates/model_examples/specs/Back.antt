@@ -1,4 +1,4 @@
--- A part whose resources come back as its functionality. Of three elements a and b are incomparable and below t. The part makes a of b and b of a, but only t of itself.
+-- A part that has to provide what it requires itself. Of three elements a and b are incomparable, and both are at most t. The part provides a for b, b for a, and t for t.
 use Rattle.std.specs.Prelude.{◌≡◌, ℕ, zero, suc, Bool, false, codes, IsTrue, IsSomeAnd, List, [], ◌∷◌, map, slice_get}
 use Rattle.std.proofs.Common.{refl, sym, ap, subst, ◌∙◌, inl, inr, arith}
 use Rattle.order_core.specs.Finite.{IsTable}
@@ -72,7 +72,7 @@ maker_requires = element_port (codes "y") ∷ []
 abbrev pub maker_rows : List CatRow
 maker_rows = row (codes "one") a b ∷ row (codes "two") b a ∷ row (codes "three") t t ∷ []
 
--- It makes a of b, b of a, and t of t.
+-- It provides a for b, b for a, and t for t.
 abbrev pub maker : Design
 maker = Cat maker_provides maker_requires maker_rows
 
@@ -85,7 +85,7 @@ parts = part (codes "c") maker ∷ []
 abbrev pub constraints : List Constraint
 constraints = constraint (greater.Inner 0 0) (expr.Inner 0 0) ∷ constraint (greater.Own 0) (expr.Inner 0 0) ∷ []
 
--- What the part makes is at least what it is made of, and so is what the whole requires.
+-- What the part provides is at least what it requires, and so is what the whole requires.
 abbrev pub back : Design
 back = Net [] requires_ parts constraints
 
@@ -128,7 +128,7 @@ maker_holds = rw Holds-Cat (rw witness.outs-Row (
   record { enough = leq_one types elements t t t_below; within = leq_one types elements t t t_below },
 ))
 
--- It is done at t.
+-- It is feasible at t.
 pub feasible_at_t : IsFeasible types back [] (t ∷ [])
 feasible_at_t = (
   witness.Inner only_t,
@@ -142,35 +142,40 @@ feasible_at_t = (
   )),
 )
 
--- What is made of the second value is at most the first one, and comes back as the second: so the second value is at most the first.
+-- A row that provides `made` for `given`, and covers what it requires, provides at least that.
 around : (given made x y : Value) → IsTrue (fits types elements given) → IsTrue (fits types elements made) → IsTrue (fits types elements x) → IsTrue (fits types elements y)
     → IsTrue (leq types elements x made) → IsTrue (leq types elements given y) → IsTrue (leq types elements y x) → IsTrue (leq types elements given made)
 around given made x y given_is made_is x_is y_is enough within returned =
     let laws = kind_laws types elements in
     laws.transitive given x made given_is x_is made_is (laws.transitive given y x given_is y_is x_is within returned) enough
 
--- Of the part's rows, three alone gives back what it takes, and it takes t.
-made_of : (x y : Value) → IsTrue (fits types elements x) → IsTrue (fits types elements y) → IsTrue (leq types elements y x) → (n : ℕ)
+-- Of the part's rows, three alone covers what it requires, and it requires t.
+row_requires_t : (x y : Value) → IsTrue (fits types elements x) → IsTrue (fits types elements y) → IsTrue (leq types elements y x) → (n : ℕ)
     → IsSomeAnd (slice_get maker_rows n) (RowHolds types maker_provides maker_requires (x ∷ []) (y ∷ [])) → IsTrue (leq types elements t y)
-made_of x y x_is y_is returned zero h = absurd (
+row_requires_t x y x_is y_is returned zero h = absurd (
     let wrong = around b a x y (element_fits poset 1) (element_fits poset 0) x_is y_is (one_leq types elements x a h.enough) (one_leq types elements b y h.within) returned in
     let never : leq types elements b a ≡ false = element_leq poset 1 0 in cc)
-made_of x y x_is y_is returned (suc zero) h = absurd (
+row_requires_t x y x_is y_is returned (suc zero) h = absurd (
     let wrong = around a b x y (element_fits poset 0) (element_fits poset 1) x_is y_is (one_leq types elements x b h.enough) (one_leq types elements a y h.within) returned in
     let never : leq types elements a b ≡ false = element_leq poset 0 1 in cc)
-made_of x y x_is y_is returned (suc (suc zero)) h = one_leq types elements t y h.within
-made_of x y x_is y_is returned (suc (suc (suc n))) h = absurd h
+row_requires_t x y x_is y_is returned (suc (suc zero)) h = one_leq types elements t y h.within
+row_requires_t x y x_is y_is returned (suc (suc (suc n))) h = absurd h
 
-returning_takes : (provided required : Row) (x y : Value) → IsTrue (fits types elements x) → IsTrue (fits types elements y) → IsTrue (leq types elements y x) → (w : Witness)
+maker_requires_t : (provided required : Row) (x y : Value) → IsTrue (fits types elements x) → IsTrue (fits types elements y) → IsTrue (leq types elements y x) → (w : Witness)
     → provided ≡ x ∷ [] → required ≡ y ∷ [] → Holds types maker provided required w → IsTrue (leq types elements t y)
-returning_takes provided required x y x_is y_is returned w e f h =
+maker_requires_t provided required x y x_is y_is returned w e f h =
     let held : Holds types maker (x ∷ []) (y ∷ []) w =
     subst (λ (u : Row). Holds types maker u (y ∷ []) w) e (subst (λ (v : Row). Holds types maker provided v w) f h) in
     let made = by_row types maker_provides maker_requires maker_rows (x ∷ []) (y ∷ []) w (rw Holds-Cat at held).1 in
-    made_of x y x_is y_is returned made.0 made.2
+    row_requires_t x y x_is y_is returned made.0 made.2
 
-carries : (ws : List PartWitness) (w : PartWitness) (x y : Value) → ws ≡ w ∷ [] → w.provided ≡ x ∷ [] → w.required ≡ y ∷ [] → map carried_by ws ≡ carried x y ∷ []
-carries ws w x y is e f = ap (map carried_by) is ∙ λ i. record { provided = e i; required = f i } ∷ []
+-- what the constraints say, where the one part is witnessed to carry these values
+witnessed : (ws : List PartWitness) (w : PartWitness) (r x y : Value) → ws ≡ w ∷ [] → w.provided ≡ x ∷ [] → w.required ≡ y ∷ []
+    → AllSatisfied types (wiring_of (λ p. p) [] requires_ parts constraints) [] (r ∷ []) (map carried_by ws) → ComesBack r x y
+witnessed ws w r x y is e f h =
+    let same : map carried_by ws ≡ carried x y ∷ [] = ap (map carried_by) is ∙ λ i. record { provided = e i; required = f i } ∷ [] in
+    comes_back r x y (subst (λ (cs : List Carried). AllSatisfied types wired [] (r ∷ []) cs) same
+    (subst (λ (net : Wiring). AllSatisfied types net [] (r ∷ []) (map carried_by ws)) wiring_is h))
 
 -- So much is required at least.
 at_least_t : (r : Value) → IsTrue (fits types elements r) → (w : Witness) → Holds types back [] (r ∷ []) w → IsTrue (leq types elements t r)
@@ -181,11 +186,9 @@ at_least_t r r_is w h =
     let fit : Fit types maker_provides maker_requires one.0.provided one.0.required = rw (provided-Cat, required-Cat) at (holds_fits types maker one.0.provided one.0.required one.0.inner one.2) in
     let x = as_one types elements one.0.provided fit.provided in
     let y = as_one types elements one.0.required fit.required in
-    let same = carries named.0 one.0 x.only y.only one.1 x.row_is y.row_is in
-    let says = comes_back r x.only y.only (subst (λ (cs : List Carried). AllSatisfied types wired [] (r ∷ []) cs) same
-    (subst (λ (net : Wiring). AllSatisfied types net [] (r ∷ []) (map carried_by named.0)) wiring_is named.2.constraints)) in
-    let takes = returning_takes one.0.provided one.0.required x.only y.only x.valid y.valid says.returned one.0.inner x.row_is y.row_is one.2 in
-    (kind_laws types elements).transitive t y.only r t_fits y.valid r_is takes says.covered
+    let says = witnessed named.0 one.0 r x.only y.only one.1 x.row_is y.row_is named.2.constraints in
+    let requires_t = maker_requires_t one.0.provided one.0.required x.only y.only x.valid y.valid says.returned one.0.inner x.row_is y.row_is one.2 in
+    (kind_laws types elements).transitive t y.only r t_fits y.valid r_is requires_t says.covered
 
 above : (r : Row) → IsFeasible types back [] r → Below (row_leq types (elements ∷ [])) ((t ∷ []) ∷ []) r
 above r h =
@@ -200,7 +203,7 @@ only_at_t : (r : Row) → IsMember r ((t ∷ []) ∷ []) → IsFeasible types ba
 only_at_t r (inl e) = subst (IsFeasible types back []) (sym e) feasible_at_t
 only_at_t r (inr m) = absurd m
 
--- t is the only minimum: a and b would each have to come back as the other.
+-- t is the only minimum, since neither a nor b is provided for itself.
 pub back_gives_t : AreMinima types back [] ((t ∷ []) ∷ [])
 back_gives_t = are_the_minima types back [] ((t ∷ []) ∷ []) refl (record {
   elements = only_at_t;

@@ -3,7 +3,7 @@ use Rattle.std.specs.Prelude.{◌≡◌, ℕ, Bool, true, false, nat_le, ◌&&�
 use Rattle.std.proofs.Common.{refl, sym, ap, ◌∙◌}
 use Rattle.order_core.specs.declared.num.Num.{Num as Number}
 use Rattle.order_core.specs.declared.num.Num.TheVariants as number
-use Rattle.order_core.specs.Members.{first, second, both}
+use Rattle.order_core.specs.Members.{first, second}
 use Rattle.order_core.specs.Num as numeric
 use Rattle.std.specs.Ordering.{nat_cmp}
 use Rattle.value_type.specs.PrintOrder.{value_cmp}
@@ -16,6 +16,7 @@ use Rattle.value_type.specs.Leq.{leq, row_leq}
 use Rattle.design_model.specs.NumberLaws.{number_back}
 use Rattle.design_model.specs.Rows.{Row}
 use Rattle.design_model.specs.ValueOf.{number_in, of_two}
+use Rattle.model_examples.specs.ShortRows as short
 use Rattle.model_examples.specs.Words.{no_types, no_dim, numbers, counts}
 
 -- the values of some numbers
@@ -52,16 +53,17 @@ pub record IsOne (r : Row) : Type 0 where
   pub valid : IsTrue (numeric.is_number only)
 
 pub as_one : (r : Row) → IsTrue (row_fits no_types (numbers ∷ []) r) → IsOne r
-as_one [] h = absurd (cc)
-as_one (v ∷ []) h = let n = as_number v (first _ _ h) in record { only = n.number_is; row_is = ap (λ (x : Value). x ∷ []) n.value_is; valid = n.valid }
-as_one (v ∷ w ∷ r) h = absurd (let two = second (fits no_types numbers v) _ h in cc)
+as_one r h =
+    let one = short.as_one no_types numbers r h in
+    let n = as_number one.only one.valid in
+    record { only = n.number_is; row_is = one.row_is ∙ ap (λ (x : Value). x ∷ []) n.value_is; valid = n.valid }
 
 -- Of two rows of one number, the numbers are in order where the rows are.
 pub one_leq : (m n : Number) → IsTrue (row_leq no_types (numbers ∷ []) (number_value m ∷ []) (number_value n ∷ [])) → IsTrue (numeric.number_leq m n)
-one_leq m n h = sym (number_leq m n) ∙ first _ _ h
+one_leq m n h = sym (number_leq m n) ∙ short.one_leq no_types numbers (number_value m) (number_value n) h
 
 pub leq_one : (m n : Number) → IsTrue (numeric.number_leq m n) → IsTrue (row_leq no_types (numbers ∷ []) (number_value m ∷ []) (number_value n ∷ []))
-leq_one m n h = both _ _ (number_leq m n ∙ h) refl
+leq_one m n h = short.leq_one no_types numbers (number_value m) (number_value n) (number_leq m n ∙ h)
 
 -- what two numbers make
 pub made_of_two : (op : Number → Number → Number) (m n : Number) → of_two op (number_in (Some (number_value m))) (number_in (Some (number_value n))) ≡ Some (number_value (op m n))
@@ -101,11 +103,11 @@ pub record IsTwo (r : Row) : Type 0 where
   pub right_valid : IsTrue (numeric.is_number right)
 
 pub as_two : (r : Row) → IsTrue (row_fits no_types (numbers ∷ numbers ∷ []) r) → IsTwo r
-as_two [] h = absurd (cc)
-as_two (v ∷ r) h =
-    let a = as_number v (first _ _ h) in
-    let b = as_one r (second (fits no_types numbers v) _ h) in
-    record { left = a.number_is; right = b.only; row_is = λ i. a.value_is i ∷ b.row_is i; left_valid = a.valid; right_valid = b.valid }
+as_two r h =
+    let two = short.as_two no_types numbers numbers r h in
+    let a = as_number two.left two.left_valid in
+    let b = as_number two.right two.right_valid in
+    record { left = a.number_is; right = b.number_is; row_is = two.row_is ∙ (λ i. a.value_is i ∷ b.value_is i ∷ []); left_valid = a.valid; right_valid = b.valid }
 
 -- Of two rows of two numbers in order, the second numbers are in order too.
 pub two_leq : (m n p q : Number) → IsTrue (row_leq no_types (numbers ∷ numbers ∷ []) (number_value m ∷ number_value n ∷ []) (number_value p ∷ number_value q ∷ []))

@@ -5,7 +5,7 @@ use Rattle.std.proofs.lemmas.Bool.{eqb-true}
 use Rattle.order_core.specs.Members.{first, second}
 use Rattle.order_core.specs.Tuple.{are_values}
 use Rattle.value_type.specs.declared.kind.Kind.{Kind, out-Kind, roll-Kind, roll-out-Kind, map-Kind}
-use Rattle.value_type.specs.declared.kind.Kind.TheFolds.{ind-Kind, fold_out-Kind}
+use Rattle.value_type.specs.declared.kind.Kind.TheFolds.{ind-Kind}
 use Rattle.value_type.specs.declared.kind.Kind.TheOpen.{Kind-F}
 use Rattle.value_type.specs.declared.kind.Kind.TheVariants as kind
 use Rattle.value_type.specs.declared.poset.Types.{Types}
@@ -16,6 +16,7 @@ use Rattle.value_type.specs.KindLaws.{fits-Num, fits-Prod, leq-Num, leq-Prod}
 use Rattle.value_type.specs.Leq.{leq, row_leq, parts_leq}
 use Rattle.unit_core.specs.declared.dim.Dim.{Dim}
 use Rattle.design_model.specs.ExprKinds.{are_alike, alike_step}
+use Rattle.model_laws.specs.KindFolds.{alike-Num, alike-Fin, alike-Prod, alike-Up}
 
 -- They have the same values, in the same order.
 pub record HaveSameValues (t : Types) (a b : Kind) : Type 0 where
@@ -24,18 +25,6 @@ pub record HaveSameValues (t : Types) (a b : Kind) : Type 0 where
 
 seen : (k : Kind) (x : Kind-F Kind) → out-Kind k ≡ x → k ≡ roll-Kind x
 seen k x e = sym (roll-out-Kind k) ∙ ap roll-Kind e
-
-alike-Num : (dim : Dim) (b : Kind) → are_alike (kind.Num dim) b ≡ alike_step (Kind-F.Num dim) (out-Kind b)
-alike-Num dim b = rw (fold_out-Kind, kind.outs-Num) refl
-
-alike-Fin : (k : ℕ) (b : Kind) → are_alike (kind.Fin k) b ≡ alike_step (Kind-F.Fin k) (out-Kind b)
-alike-Fin k b = rw (fold_out-Kind, kind.outs-Fin) refl
-
-alike-Prod : (ks : List Kind) (b : Kind) → are_alike (kind.Prod ks) b ≡ alike_step (Kind-F.Prod (map are_alike ks)) (out-Kind b)
-alike-Prod ks b = rw (fold_out-Kind, kind.outs-Prod) refl
-
-alike-Up : (k : ℕ) (b : Kind) → are_alike (kind.Up k) b ≡ alike_step (Kind-F.Up k) (out-Kind b)
-alike-Up k b = rw (fold_out-Kind, kind.outs-Up) refl
 
 module _ (t : Types) where
   abbrev Claim : Kind → Type 0

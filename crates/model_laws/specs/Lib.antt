@@ -5,6 +5,7 @@ pub mod ExprMonotone
 pub mod FeasibleRounds
 pub mod GatheredLaws
 pub mod HoldsMonotone
+pub mod KindFolds
 pub mod NetLaws
 pub mod ReadingLaws
 pub mod RoundsMonotone
