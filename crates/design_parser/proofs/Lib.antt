@@ -1,0 +1,6 @@
+pub mod BodyParts
+pub mod ExprParts
+pub mod NameParts
+pub mod Rooms
+pub mod Statements
+pub mod ValueParts

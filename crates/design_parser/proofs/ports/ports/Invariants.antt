@@ -1,0 +1,13 @@
+use Rattle.std.proofs.Common.{◌≡◌, length}
+use Rattle.grammar_core.specs.Classes.{one_of}
+use Rattle.grammar_core.specs.Reading.{many_at}
+use Rattle.grammar_core.specs.Words.{at_end}
+use Rattle.design_parser.specs.Readers.{sides, port_at, ports_at}
+use Rattle.design_parser.proofs.ports.ports.Given as goal
+
+-- what is left, added to what was read, gives what all gives
+abbrev pub invariant-loop-alloc : goal.invariant-loop-alloc
+invariant-loop-alloc l = many_at at_end (one_of sides) port_at l.ports.items l.lexemes ≡ ports_at l.fn.lexemes
+
+abbrev pub decreases-loop-alloc : goal.decreases-loop-alloc
+decreases-loop-alloc l = length l.lexemes

@@ -1,0 +1,5 @@
+pub mod Answers
+pub mod Grammar
+pub mod Lists
+pub mod Readers
+pub mod Trees

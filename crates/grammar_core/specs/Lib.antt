@@ -1,0 +1,16 @@
+pub mod Classes
+pub mod ClassLaws
+pub mod FaultLaws
+pub mod Faults
+pub mod Few
+pub mod Fillers
+pub mod Gives
+pub mod Loops
+pub mod Parts
+pub mod PlacedLaws
+pub mod Reading
+pub mod Repeats
+pub mod Spelled
+pub mod Statements
+pub mod Whole
+pub mod Words
