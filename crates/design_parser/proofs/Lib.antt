@@ -1,4 +1,6 @@
 pub mod BodyParts
+pub mod BracketDepths
+pub mod Depths
 pub mod ExprParts
 pub mod NameParts
 pub mod Rooms

@@ -84,10 +84,10 @@ call_no_end E h = either_no_end _ _ (then_no_end (Mark class.Max) _ (mark_no_end
 bracketed_no_end : (E : List Lexeme → ExprTree → Type 0) → HasNoEnd E → HasNoEnd (Bracketed E)
 bracketed_no_end E h = then_no_end (Mark class.Less) _ (mark_no_end class.Less refl) (λ at. then_no_end (Listed class.Comma E) _ (listed_no_end class.Comma refl E h) (λ parts. sym_no_end class.Greater refl _ (nothing_no_end (at, parts))))
 
-sums_no_end : (I : List Lexeme → ExprTree → Type 0) → HasNoEnd I → HasNoEnd (Sums I)
+pub sums_no_end : (I : List Lexeme → ExprTree → Type 0) → HasNoEnd I → HasNoEnd (Sums I)
 sums_no_end I h = joined_no_end sum class.Plus refl (Term I) (joined_no_end product class.Star refl I h)
 
-item_no_end : (room : ℕ) → HasNoEnd (Item room)
+pub item_no_end : (room : ℕ) → HasNoEnd (Item room)
 unfolding Item
 item_no_end zero = plain_item_no_end
 item_no_end (suc room) =

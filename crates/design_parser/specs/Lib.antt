@@ -1,4 +1,5 @@
 pub mod Answers
+pub mod Depth
 pub mod Grammar
 pub mod Lists
 pub mod Readers

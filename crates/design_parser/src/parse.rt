@@ -1,4 +1,4 @@
-ghost use Rattle.std.specs.Prelude.{◌≡◌, IfOk, IfErr, length};
+ghost use Rattle.std.specs.Prelude.{◌≡◌, Ok, IfOk, IfErr, length};
 ghost use Rattle.design_lexer.specs.Cut.{AreTokens};
 ghost use Rattle.grammar_core.specs.Classes.{lexemes_of};
 ghost use Rattle.grammar_core.specs.Faults.{FailsAt};
@@ -74,16 +74,23 @@ pub fn parse_values(
     }
 }
 
+/// The value, where no token is left.
+fn done<T: Drop>(value: T, lexemes: &Lexemes<'_>) -> Result<T, ReadFault>
+    ensures { Gives (λ value. value) result (whole (Ok (value, lexemes.now))) }
+{
+    let left = lexemes.left();
+    if left > 0 {
+        return Err(ReadFault::Left(left));
+    }
+    Ok(value)
+}
+
 /// A file of the kind, with no token after it.
 fn whole_file(alloc: Global, kind: FileKind, lexemes: &mut Lexemes<'_>) -> Result<File, ReadFault>
     ensures { Gives (λ file. file) result (whole (reader.file_at kind lexemes.old)) }
 {
     let file = file(alloc, kind, lexemes)?;
-    let left = lexemes.left();
-    if left > 0 {
-        return Err(ReadFault::Left(left));
-    }
-    Ok(file)
+    done(file, lexemes)
 }
 
 /// The values of a query, with no token after them.
@@ -91,9 +98,5 @@ fn whole_query(alloc: Global, lexemes: &mut Lexemes<'_>) -> Result<List<ValueTre
     ensures { Gives (λ values. values) result (whole (reader.maybe_cells_at lexemes.old)) }
 {
     let values = maybe_cells(alloc, lexemes)?;
-    let left = lexemes.left();
-    if left > 0 {
-        return Err(ReadFault::Left(left));
-    }
-    Ok(values)
+    done(values, lexemes)
 }

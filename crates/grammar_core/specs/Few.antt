@@ -80,7 +80,7 @@ over_filled limit (t ∷ a) b h k =
     signed before zero s h = absurd (nonzero t a (sym (over_past t a s) ∙ h))
     signed before (suc n) s h = over_sign n t (a ++ b) s ∙ before n (sym (over_sign n t a s) ∙ h)
 
-few_over : (limit : ℕ) (body more : List Lexeme) → IsTrue (list_all is_plain body) → over limit (body ++ more) ≡ 0 → signs body ≤ limit
+pub few_over : (limit : ℕ) (body more : List Lexeme) → IsTrue (list_all is_plain body) → over limit (body ++ more) ≡ 0 → signs body ≤ limit
 few_over limit [] more k h = omega arith
 few_over limit (t ∷ body) more k h =
     let e : is class.Semicolon t ≡ false = not_true (is class.Semicolon t) (first (is_plain t) _ k) in
@@ -110,12 +110,12 @@ signs_end [] stop e = rw (semicolon_no_sign stop e) refl
 signs_end (t ∷ body) stop e = elim (cases_bool (is_sign t)) [ inl s ↦ rw s (ap suc (signs_end body stop e)) | inr s ↦ rw s (signs_end body stop e) ]
 
 -- a statement within the limit
-few_statement : (limit : ℕ) (ts more : List Lexeme) → IsStatement ts → over limit (ts ++ more) ≡ 0 → signs ts ≤ limit
+pub few_statement : (limit : ℕ) (ts more : List Lexeme) → IsStatement ts → over limit (ts ++ more) ≡ 0 → signs ts ≤ limit
 few_statement limit ts more st h =
     let l = few_over limit st.body (st.stop ∷ more) st.plain (ap (over limit) (sym (append_assoc st.body (st.stop ∷ []) more)) ∙ ap (λ z. over limit (z ++ more)) (sym st.parts) ∙ h) in
     subst (λ z. z ≤ limit) (sym (ap signs st.parts ∙ signs_end st.body st.stop st.ends)) l
 
-statement_few : (limit : ℕ) (ts more : List Lexeme) → IsStatement ts → signs ts ≤ limit → over limit (ts ++ more) ≡ 0
+pub statement_few : (limit : ℕ) (ts more : List Lexeme) → IsStatement ts → signs ts ≤ limit → over limit (ts ++ more) ≡ 0
 statement_few limit ts more st l =
     ap (λ z. over limit (z ++ more)) st.parts ∙ ap (over limit) (append_assoc st.body (st.stop ∷ []) more)
     ∙ over_few limit st.body st.stop more st.plain st.ends (subst (λ z. z ≤ limit) (ap signs st.parts ∙ signs_end st.body st.stop st.ends) l)
