@@ -149,7 +149,7 @@ operands_bounded n E h ts o w =
     let inner : signs w.back ≤ signs ts = after ts w.front w.back w.parts in
     let left : depth l.value ≤ n + signs ts = omega (arith, h l.front l.value l.first, before w.back l.front l.back l.parts, inner) in
     let right : depth r.value ≤ n + signs ts =
-      omega (arith, h r.front r.value r.first, before comma.back r.front r.back r.parts, after l.back comma.front comma.back comma.parts, after w.back l.front l.back l.parts, inner) in
+    omega (arith, h r.front r.value r.first, before comma.back r.front r.back r.parts, after l.back comma.front comma.back comma.parts, after w.back l.front l.back l.parts, inner) in
     subst (λ z. max (depth z.0) (depth z.1) ≤ n + signs ts) (sym close.same) (max_within (depth l.value) (depth r.value) (n + signs ts) left right)
 
 call_bounded : (n : ℕ) (E : List Lexeme → ExprTree → Type 0) → Bounded n E → Bounded (1 + n) (Call E)
@@ -166,7 +166,7 @@ tuple_bounded n E h ts x w =
     let l = b.second in
     let parts : w.value.1 ≡ l.value = ap (λ z. z.1) l.second.second.same in
     let deep : most (map depth w.value.1) ≤ n + signs ts =
-      subst (λ z. most (map depth z) ≤ n + signs ts) (sym parts) (omega (arith, listed_most depth (n + signs l.front) E l.front l.value (λ us y v k. omega (arith, h us y v, k)) l.first, before b.back l.front l.back l.parts, after ts b.front b.back b.parts)) in
+    subst (λ z. most (map depth z) ≤ n + signs ts) (sym parts) (omega (arith, listed_most depth (n + signs l.front) E l.front l.value (λ us y v k. omega (arith, h us y v, k)) l.first, before b.back l.front l.back l.parts, after ts b.front b.back b.parts)) in
     omega (arith, ap depth w.is, depth-Tuple w.value.1 w.value.0, deep)
 
 item_by : (m : ℕ) (E : List Lexeme → ExprTree → Type 0) → Bounded m E → Bounded (1 + m) (Either PlainItem (Either (Round E) (Either (Call E) (Made (λ t. Tuple t.1 t.0) (Bracketed E)))))

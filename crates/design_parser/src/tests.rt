@@ -4,6 +4,7 @@ use std::alloc::Global;
 
 mod cut;
 mod depths;
+mod examples;
 mod queries;
 mod rows;
 mod signs;

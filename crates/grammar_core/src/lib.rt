@@ -11,3 +11,6 @@ mod spelling;
 pub use class::Class;
 pub use fault::ReadFault;
 pub use lexemes::Lexemes;
+
+#[cfg(test)]
+mod tests;
