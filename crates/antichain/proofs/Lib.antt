@@ -1,3 +1,3 @@
-pub mod Lists
 pub mod MinimaLaws
 pub mod MinimaLemmas
+pub mod Results

@@ -6,13 +6,8 @@ use Rattle.std.proofs.lemmas.List.Folds.{list_any-append}
 use Rattle.order_core.specs.Order.{IsOrder, are_incomparable}
 use Rattle.order_core.specs.Members.{IsMember, first, second, any_elim, any_intro, all_elim}
 use Rattle.order_core.specs.Incomparable.{one_of}
-use Rattle.antichain.specs.Minima.{is_below, kept, minima, inserted}
-use Rattle.antichain.proofs.Lists.{inserted_incomparable, inserted_values}
-
--- the members after inserting each item in turn
-abbrev pub inserted_all : {A : Type 0} → (A → A → Bool) → List A → List A → List A
-inserted_all leq members [] = members
-inserted_all leq members (x ∷ xs) = inserted_all leq (inserted leq members x) xs
+use Rattle.antichain.specs.Minima.{is_below, kept, minima, inserted, inserted_all}
+use Rattle.antichain.specs.Lists.{inserted_incomparable, inserted_values}
 
 pub inserted_all-snoc : {A : Type 0} (leq : A → A → Bool) (members xs : List A) (x : A)
     → inserted_all leq members (xs ++ x ∷ []) ≡ inserted leq (inserted_all leq members xs) x

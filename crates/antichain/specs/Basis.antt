@@ -1,7 +1,8 @@
 -- Bases: the minimal elements of a set, as a list.
-use Rattle.std.proofs.Common.{IsTrue, ◌≡◌, subst, Bool, List}
-use Rattle.order_core.specs.Order.{IsOrder, are_incomparable}
-use Rattle.order_core.specs.Members.{IsMember}
+use Rattle.std.proofs.Common.{IsTrue, ◌≡◌, ◌↔◌, ◌&&◌, subst, Bool, List, ◌++◌}
+use Rattle.std.specs.List.{list_any}
+use Rattle.order_core.specs.Order.{IsOrder, IsLeast, are_incomparable}
+use Rattle.order_core.specs.Members.{IsMember, all_elim, any_elim}
 use Rattle.order_core.specs.Minimal.{IsMinimal}
 use Rattle.order_core.specs.Incomparable.{one_of}
 
@@ -33,3 +34,37 @@ module _ {A : Type 0} (is_value : A → Bool) (leq : A → A → Bool) (laws : I
     member_of_minimal x h =
         let b = basis.complete x h.element in
         subst (λ (z : A). IsMember z xs) (h.least b.0 (basis.elements b.0 b.1) b.2) b.1
+
+  -- The least values are a basis of all values.
+  pub least_basis : (xs : List A) → IsLeast is_value leq xs → IsBasis leq (λ x. IsTrue (is_value x)) xs
+  least_basis xs h = record {
+    elements = λ x m. all_elim is_value xs x h.values m;
+    incomparable = h.incomparable;
+    complete = λ y v. any_elim (λ x. leq x y) xs (h.complete y v);
+  }
+
+-- a value above x and above a listed item
+pub record IsRaise {A : Type 0} (is_value : A → Bool) (leq : A → A → Bool) (x : A) (items : List A) (t : A) : Type 0 where
+  pub value : IsTrue (is_value t)
+  pub above : IsTrue (leq x t)
+  pub below : Below leq items t
+
+-- Values above x and a listed item each, one of them below each such value.
+pub record AreRaises {A : Type 0} (is_value : A → Bool) (leq : A → A → Bool) (x : A) (items found : List A) : Type 0 where
+  pub raises : (t : A) → IsMember t found → IsRaise is_value leq x items t
+  pub complete : (t : A) → IsRaise is_value leq x items t → Below leq found t
+
+-- Incomparable items of the list that no kept item is at most, one of them or of the kept ones below each item.
+pub record AreMerged {A : Type 0} (leq : A → A → Bool) (kept items made : List A) : Type 0 where
+  pub incomparable : IsTrue (are_incomparable leq made)
+  pub from : (t : A) → IsMember t made → IsMember t items
+  pub free : (t y : A) → IsMember t made → IsMember y kept → IsTrue (leq y t) → ⊥
+  pub covers : (t : A) → IsMember t items → Below leq (made ++ kept) t
+
+-- Both lists have the same members, in any order.
+abbrev pub SameMembers : {A : Type 0} → List A → List A → Type 0
+SameMembers {A = A} xs ys = (x : A) → IsMember x xs ↔ IsMember x ys
+
+-- x and an item are at most each other
+abbrev pub has_equal : {A : Type 0} → (A → A → Bool) → List A → A → Bool
+has_equal leq ys x = list_any (λ y. leq x y && leq y x) ys

@@ -19,3 +19,8 @@ minima leq xs = kept leq [] xs
 -- the members after an insert
 abbrev pub inserted : {A : Type 0} → (A → A → Bool) → List A → A → List A
 inserted leq members x = cond (list_any (λ member. leq member x) members) members (filter (λ member. not (leq x member)) members ++ x ∷ [])
+
+-- the members after inserting each item in turn
+abbrev pub inserted_all : {A : Type 0} → (A → A → Bool) → List A → List A → List A
+inserted_all leq members [] = members
+inserted_all leq members (x ∷ xs) = inserted_all leq (inserted leq members x) xs

@@ -3,10 +3,10 @@ ghost use Rattle.std.specs.List.{list_any, list_all};
 ghost use Rattle.order_core.specs.Members.{IsMember};
 ghost use Rattle.order_core.specs.Minimal.{IsMinimal};
 ghost use Rattle.order_core.specs.Order.{are_incomparable};
-ghost use Rattle.antichain.specs.Basis.{IsBasis};
+ghost use Rattle.antichain.specs.Basis.{IsBasis, IsRaise, SameMembers};
 ghost use Rattle.antichain.specs.Minima.{inserted, minima};
 
-use crate::scan::{remove_above, some_below};
+use crate::scan::{all_bounds, all_equal, remove_above, some_below};
 use order_core::{List, NoMemory, Order};
 use std::alloc::Global;
 use std::marker::Model;
@@ -90,6 +90,52 @@ impl<T: Drop> Antichain<T> {
             Ok(()) => Ok(true),
             Err(_) => unreachable!(),
         }
+    }
+
+    /// Whether a member is at most x.
+    pub fn meets<O: Order<Item = T>>(&self, order: &O, x: &T) -> bool
+        requires members { IsTrue (list_all (O.is_value order.now) self.now) }
+        requires incomparable { IsTrue (are_incomparable (O.leq order.now) self.now) }
+        requires x_is_value { IsTrue (O.is_value order.now x.now) }
+
+        ensures { result ≡ list_any (λ member. O.leq order.now member x.now) self.now }
+    {
+        some_below(order, &self.items, x)
+    }
+
+    /// The minimal values above x and above a member.
+    pub fn raise<O: Order<Item = T>>(
+        &self,
+        alloc: Global,
+        order: &O,
+        x: &T,
+    ) -> Result<Antichain<T>, NoMemory>
+        requires members { IsTrue (list_all (O.is_value order.now) self.now) }
+        requires incomparable { IsTrue (are_incomparable (O.leq order.now) self.now) }
+        requires x_is_value { IsTrue (O.is_value order.now x.now) }
+
+        ensures basis { IfOk result (IsBasis (O.leq order.now) (IsRaise (O.is_value order.now) (O.leq order.now) x.now self.now)) }
+
+        ensures members { IfOk result (λ made. IsTrue (list_all (O.is_value order.now) made)) }
+        ensures incomparable { IfOk result (λ made. IsTrue (are_incomparable (O.leq order.now) made)) }
+    {
+        let found = all_bounds(alloc, order, &self.items, x)?;
+        Antichain::of(alloc, order, List::of(found))
+    }
+
+    /// Whether both have the same members, in any order.
+    pub fn same<O: Order<Item = T>>(&self, order: &O, other: &Antichain<T>) -> bool
+        requires members { IsTrue (list_all (O.is_value order.now) self.now) }
+        requires incomparable { IsTrue (are_incomparable (O.leq order.now) self.now) }
+        requires other_members { IsTrue (list_all (O.is_value order.now) other.now) }
+        requires other_incomparable { IsTrue (are_incomparable (O.leq order.now) other.now) }
+
+        ensures { IsTrue result ↔ SameMembers self.now other.now }
+    {
+        if !all_equal(order, &self.items, &other.items) {
+            return false;
+        }
+        all_equal(order, &other.items, &self.items)
     }
 
     /// The members, in order.

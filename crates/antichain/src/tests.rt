@@ -73,3 +73,62 @@ fn inserts(rt: HostRuntime) -> Result<(), Fail> {
     assert_eq!(rt; made.items(), [2, 3].as_slice());
     Ok(())
 }
+
+#[test]
+fn meets_what_is_above_a_member(rt: HostRuntime) -> Result<(), Fail> {
+    let made = Antichain::of(
+        rt.alloc(),
+        &Parity,
+        List::of(Vec::from_array(rt.alloc(), [4, 5])?),
+    )?;
+    assert!(rt; made.meets(&Parity, &4));
+    assert!(rt; made.meets(&Parity, &8));
+    assert!(rt; !made.meets(&Parity, &2));
+    assert!(rt; !made.meets(&Parity, &3));
+    Ok(())
+}
+
+#[test]
+fn raises_to_common_bounds(rt: HostRuntime) -> Result<(), Fail> {
+    let made = Antichain::of(
+        rt.alloc(),
+        &Parity,
+        List::of(Vec::from_array(rt.alloc(), [4, 5])?),
+    )?;
+    let low = made.raise(rt.alloc(), &Parity, &2)?;
+    assert_eq!(rt; low.items(), [4].as_slice());
+    let high = made.raise(rt.alloc(), &Parity, &9)?;
+    assert_eq!(rt; high.items(), [9].as_slice());
+    let none = low.raise(rt.alloc(), &Parity, &1)?;
+    assert!(rt; none.items().is_empty());
+    Ok(())
+}
+
+#[test]
+fn same_in_any_order(rt: HostRuntime) -> Result<(), Fail> {
+    let made = Antichain::of(
+        rt.alloc(),
+        &Parity,
+        List::of(Vec::from_array(rt.alloc(), [4, 5])?),
+    )?;
+    let turned = Antichain::of(
+        rt.alloc(),
+        &Parity,
+        List::of(Vec::from_array(rt.alloc(), [5, 4])?),
+    )?;
+    let other = Antichain::of(
+        rt.alloc(),
+        &Parity,
+        List::of(Vec::from_array(rt.alloc(), [4, 7])?),
+    )?;
+    let fewer = Antichain::of(
+        rt.alloc(),
+        &Parity,
+        List::of(Vec::from_array(rt.alloc(), [4, 6])?),
+    )?;
+    assert!(rt; made.same(&Parity, &turned));
+    assert!(rt; !made.same(&Parity, &other));
+    assert!(rt; !made.same(&Parity, &fewer));
+    assert!(rt; !fewer.same(&Parity, &made));
+    Ok(())
+}

@@ -4,8 +4,8 @@ use Rattle.std.proofs.lemmas.Iterator.Consumers.{YieldsList-end}
 use Rattle.std.proofs.lemmas.List.{map-id}
 use Rattle.order_core.specs.Members.{IsMember, all_elim}
 use Rattle.antichain.specs.Basis.{IsBasis, minimal_member, member_of_minimal}
-use Rattle.antichain.specs.Minima.{inserted}
-use Rattle.antichain.proofs.MinimaLemmas.{inserted_all, inserted_all-snoc, inserted_all-minima}
+use Rattle.antichain.specs.Minima.{inserted, inserted_all}
+use Rattle.antichain.proofs.MinimaLemmas.{inserted_all-snoc, inserted_all-minima}
 use Rattle.antichain.proofs.MinimaLaws.{minima_are}
 use Rattle.antichain.proofs.antichain.Antichain.of.Goals as goal
 

@@ -1,7 +1,7 @@
 use Rattle.std.proofs.Common.{◌≡◌, [], IsTrue}
 use Rattle.std.specs.List.{list_all}
 use Rattle.order_core.specs.Order.{are_incomparable}
-use Rattle.antichain.proofs.MinimaLemmas.{inserted_all}
+use Rattle.antichain.specs.Minima.{inserted_all}
 use Rattle.antichain.proofs.antichain.Antichain.of.Given as goal
 
 -- The members are what inserting the items so far makes, and an antichain of values.

@@ -1,0 +1,10 @@
+use Rattle.std.proofs.Common.{◌∙◌, sym, not}
+use Rattle.antichain.specs.Lists.{inserted_incomparable, inserted_values}
+use Rattle.antichain.proofs.scan.insert_reserved.Goals as goal
+
+pub returns-clause-fits : goal.returns-clause-fits
+returns-clause-fits g c =
+    rw (c.in-Ok.ensures.items, c.remove_above.ensures.items) (
+      inserted_values (g.O.Order.is_value c.args.order.now) (λ item. not (g.O.Order.leq c.args.order.now c.args.item item)) c.args.members.now.items c.args.item c.requires.members_are_values c.requires.item_is_value,
+      inserted_incomparable (g.O.Order.leq c.args.order.now) c.args.members.now.items c.args.item c.requires.incomparable (rw (← c.deref.ensures.value) (sym c.some_below.ensures ∙ c.if-some_below.false)),
+    )

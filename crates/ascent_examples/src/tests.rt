@@ -1,0 +1,3 @@
+mod forks;
+mod pairs;
+mod runs;

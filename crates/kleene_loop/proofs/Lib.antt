@@ -1,0 +1,4 @@
+pub mod Answered
+pub mod AtFirst
+pub mod Raising
+pub mod Steps
