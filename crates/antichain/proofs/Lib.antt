@@ -1,3 +1,8 @@
+pub mod Backwards
+pub mod Equals
 pub mod MinimaLaws
 pub mod MinimaLemmas
+pub mod Ordered
+pub mod Raises
 pub mod Results
+pub mod Swept

@@ -4,7 +4,7 @@ use Rattle.std.specs.List.{list_all}
 use Rattle.order_core.specs.Order.{IsOrder}
 use Rattle.order_core.specs.Members.{IsMember}
 use Rattle.antichain.specs.Basis.{IsBasis}
-use Rattle.antichain.specs.Inserted.{all_fit, all_from, all_below}
+use Rattle.antichain.specs.InsertedLaws.{all_apart, all_from, all_below}
 use Rattle.antichain.specs.Minima.{minima, inserted_all}
 use Rattle.antichain.proofs.MinimaLemmas.{inserted_all-minima}
 
@@ -13,7 +13,7 @@ module _ {A : Type 0} (is_value : A → Bool) (leq : A → A → Bool) (laws : I
   minima_are xs v =
       let e : inserted_all leq [] xs ≡ minima leq xs = inserted_all-minima is_value leq laws xs v in
       subst (λ (zs : List A). IsBasis leq (λ y. IsMember y xs) zs) e (record {
-        incomparable = (all_fit is_value leq laws xs [] v (refl, refl)).1;
+        incomparable = (all_apart is_value leq laws xs [] v (refl, refl)).1;
         elements = λ x m. listed x (all_from is_value leq laws xs [] v (refl, refl) x m);
         complete = λ x m. all_below is_value leq laws xs [] v (refl, refl) x m;
       })

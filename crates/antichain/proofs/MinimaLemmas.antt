@@ -4,10 +4,11 @@ use Rattle.std.specs.List.{list_all, list_any}
 use Rattle.std.proofs.lemmas.List.Elements.{filter-append}
 use Rattle.std.proofs.lemmas.List.Folds.{list_any-append}
 use Rattle.order_core.specs.Order.{IsOrder, are_incomparable}
-use Rattle.order_core.specs.Members.{IsMember, first, second, any_elim, any_intro, all_elim}
-use Rattle.order_core.specs.Incomparable.{one_of}
-use Rattle.antichain.specs.Minima.{is_below, kept, minima, inserted, inserted_all}
-use Rattle.antichain.specs.Lists.{inserted_incomparable, inserted_values}
+use Rattle.order_core.specs.Members.{IsMember}
+use Rattle.order_core.specs.MemberLaws.{first, second, any_elim, any_intro, all_elim, append_nil}
+use Rattle.order_core.specs.IncomparableLaws.{one_of}
+use Rattle.antichain.specs.Minima.{is_less, kept, minima, inserted, inserted_all}
+use Rattle.antichain.specs.ListLaws.{inserted_incomparable, inserted_values}
 
 pub inserted_all-snoc : {A : Type 0} (leq : A → A → Bool) (members xs : List A) (x : A)
     → inserted_all leq members (xs ++ x ∷ []) ≡ inserted leq (inserted_all leq members xs) x
@@ -19,11 +20,11 @@ or_true true = refl
 or_true false = refl
 
 -- two filters agree where their tests agree on the items
-filter_same : {A : Type 0} (p q : A → Bool) (xs : List A) → ((m : A) → IsMember m xs → p m ≡ q m) → filter p xs ≡ filter q xs
+pub filter_same : {A : Type 0} (p q : A → Bool) (xs : List A) → ((m : A) → IsMember m xs → p m ≡ q m) → filter p xs ≡ filter q xs
 filter_same p q [] h = refl
 filter_same p q (x ∷ xs) h = rw (h x (inl refl), filter_same p q xs (λ m k. h m (inr k)))
 
-filter_all : {A : Type 0} (xs : List A) → filter (λ m. true) xs ≡ xs
+pub filter_all : {A : Type 0} (xs : List A) → filter (λ m. true) xs ≡ xs
 filter_all [] = refl
 filter_all (x ∷ xs) = ap (λ ys. x ∷ ys) (filter_all xs)
 
@@ -35,10 +36,6 @@ filter_filter p q (x ∷ xs) = go (q x) (filter_filter p q xs)
         → filter p (cond b (x ∷ filter q xs) (filter q xs)) ≡ cond (b && p x) (x ∷ filter (λ m. q m && p m) xs) (filter (λ m. q m && p m) xs)
     go true ih = ap (λ ys. cond (p x) (x ∷ ys) ys) ih
     go false ih = ih
-
-append_nil : {A : Type 0} (xs : List A) → xs ++ [] ≡ xs
-append_nil [] = refl
-append_nil (x ∷ xs) = ap (λ ys. x ∷ ys) (append_nil xs)
 
 -- a filter that passes all that p passes
 any_filtered : {A : Type 0} (p q : A → Bool) (xs : List A) → ((m : A) → IsMember m xs → p m ≡ true → q m ≡ true) → list_any p (filter q xs) ≡ list_any p xs
@@ -57,7 +54,7 @@ or_false false = refl
 module _ {A : Type 0} (is_value : A → Bool) (leq : A → A → Bool) (laws : IsOrder is_value leq) where
   -- no item of xs is strictly below m
   abbrev survives : List A → A → Bool
-  survives xs m = not (list_any (λ y. is_below leq y m) xs)
+  survives xs m = not (list_any (λ y. is_less leq y m) xs)
 
   -- the members decide what the items before decide
   abbrev Decides : List A → List A → Type 0
@@ -67,12 +64,12 @@ module _ {A : Type 0} (is_value : A → Bool) (leq : A → A → Bool) (laws : I
       (apart : IsTrue (are_incomparable leq members)) (decides : Decides members before) where
     -- a member is at most x, so x changes nothing
     module _ (low : list_any (λ y. leq y x) members ≡ true) where
-      unbelow : (m : A) → IsMember m members → is_below leq x m ≡ false
+      unbelow : (m : A) → IsMember m members → is_less leq x m ≡ false
       unbelow m k =
           let w = any_elim (λ y. leq y x) members low in
           go (leq x m) refl w.0 w.1 w.2
         where
-          go : (b : Bool) → leq x m ≡ b → (w : A) → IsMember w members → leq w x ≡ true → is_below leq x m ≡ false
+          go : (b : Bool) → leq x m ≡ b → (w : A) → IsMember w members → leq w x ≡ true → is_less leq x m ≡ false
           go false e w wk wx = rw e
           go true e w wk wx =
               let wm : leq w m ≡ true = laws.transitive w x m (all_elim is_value members w members_are wk) x_is (all_elim is_value members m members_are k) wx e in
@@ -81,7 +78,7 @@ module _ {A : Type 0} (is_value : A → Bool) (leq : A → A → Bool) (laws : I
               rw (e, mx) refl
 
       same_survive : (xs : List A) → filter (survives (x ∷ xs)) members ≡ filter (survives xs) members
-      same_survive xs = filter_same (survives (x ∷ xs)) (survives xs) members (λ m k. ap (λ b. not (b || list_any (λ y. is_below leq y m) xs)) (unbelow m k))
+      same_survive xs = filter_same (survives (x ∷ xs)) (survives xs) members (λ m k. ap (λ b. not (b || list_any (λ y. is_less leq y m) xs)) (unbelow m k))
 
       still_decides : Decides members (x ∷ before)
       still_decides z zv = go (leq x z) refl
@@ -110,7 +107,7 @@ module _ {A : Type 0} (is_value : A → Bool) (leq : A → A → Bool) (laws : I
           de_morgan false b = refl
 
           step : (m : A) → IsMember m members → survives (x ∷ xs) m ≡ (not (leq x m) && survives xs m)
-          step m k = rw (unlow m k) (de_morgan (leq x m) (list_any (λ y. is_below leq y m) xs))
+          step m k = rw (unlow m k) (de_morgan (leq x m) (list_any (λ y. is_less leq y m) xs))
 
       now_decides : Decides (filter (λ m. not (leq x m)) members ++ x ∷ []) (x ∷ before)
       now_decides z zv = go (leq x z) refl
@@ -156,7 +153,7 @@ module _ {A : Type 0} (is_value : A → Bool) (leq : A → A → Bool) (laws : I
           let eb : list_any (λ y. leq y x) before ≡ false = sym (d x x_is) ∙ e in
           rw (e, eb, joins_survive members before x m x_is a d e xs)
           (high e ∙ ap (λ ys. ys ++ kept leq (x ∷ before) xs) (filter-append (survives xs) (filter (λ y. not (leq x y)) members) (x ∷ []))
-          ∙ tail (list_any (λ y. is_below leq y x) xs) (filter (survives xs) (filter (λ y. not (leq x y)) members)))
+          ∙ tail (list_any (λ y. is_less leq y x) xs) (filter (survives xs) (filter (λ y. not (leq x y)) members)))
 
   -- Inserting all items in turn into no members gives the minimal ones.
   pub inserted_all-minima : (xs : List A) → IsTrue (list_all is_value xs) → inserted_all leq [] xs ≡ minima leq xs

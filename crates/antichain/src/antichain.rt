@@ -4,7 +4,7 @@ ghost use Rattle.order_core.specs.Members.{IsMember};
 ghost use Rattle.order_core.specs.Minimal.{IsMinimal};
 ghost use Rattle.order_core.specs.Order.{are_incomparable};
 ghost use Rattle.antichain.specs.Basis.{IsBasis, IsRaise, SameMembers};
-ghost use Rattle.antichain.specs.Minima.{inserted, minima};
+ghost use Rattle.antichain.specs.Minima.{are_in_order, each_hands_on, inserted, minima};
 
 use crate::scan::{all_bounds, all_equal, remove_above, some_below};
 use order_core::{List, NoMemory, Order};
@@ -61,6 +61,68 @@ impl<T: Drop> Antichain<T> {
             }
         }
         Ok(made)
+    }
+
+    /// The minimal items of a list, each once, in order of first appearance, where no item is strictly below one before it.
+    ///
+    /// It compares each item once with each member that was found so far, the last one first.
+    pub fn of_ordered<O: Order<Item = T>>(
+        alloc: Global,
+        order: &O,
+        items: List<T>,
+    ) -> Result<Antichain<T>, NoMemory>
+        requires values { IsTrue (list_all (O.is_value order.now) items) }
+        requires in_order { IsTrue (are_in_order (O.leq order.now) items) }
+
+        // The list, with its order.
+        ensures minima { IfOk result (λ made. made ≡ minima (O.leq order.now) items) }
+        // An item is a member exactly where no other one is at most it.
+        ensures exact { IfOk result (λ made. (x : T) → IsMember x made ↔ IsMinimal (O.leq order.now) (λ y. IsMember y items) x) }
+        // Each item is above a member.
+        ensures basis { IfOk result (IsBasis (O.leq order.now) (λ y. IsMember y items)) }
+
+        ensures members { IfOk result (λ made. IsTrue (list_all (O.is_value order.now) made)) }
+        ensures incomparable { IfOk result (λ made. IsTrue (are_incomparable (O.leq order.now) made)) }
+    {
+        let mut made = Vec::new(alloc);
+        for item in items.into_vec() {
+            if !some_below(order, &made, &item) && made.push(item).is_err() {
+                return Err(NoMemory);
+            }
+        }
+        Ok(Antichain { items: made })
+    }
+
+    /// The minimal items of an ordered list, where the last member so far is at most an item if any member is.
+    ///
+    /// It compares each item once. Rows of two numbers are such a list, where they are sorted by the first number and then by the second.
+    pub fn of_swept<O: Order<Item = T>>(
+        alloc: Global,
+        order: &O,
+        items: List<T>,
+    ) -> Result<Antichain<T>, NoMemory>
+        requires values { IsTrue (list_all (O.is_value order.now) items) }
+        requires in_order { IsTrue (are_in_order (O.leq order.now) items) }
+        requires handed_on { IsTrue (each_hands_on (O.leq order.now) items) }
+
+        // The list, with its order.
+        ensures minima { IfOk result (λ made. made ≡ minima (O.leq order.now) items) }
+        // An item is a member exactly where no other one is at most it.
+        ensures exact { IfOk result (λ made. (x : T) → IsMember x made ↔ IsMinimal (O.leq order.now) (λ y. IsMember y items) x) }
+        // Each item is above a member.
+        ensures basis { IfOk result (IsBasis (O.leq order.now) (λ y. IsMember y items)) }
+
+        ensures members { IfOk result (λ made. IsTrue (list_all (O.is_value order.now) made)) }
+        ensures incomparable { IfOk result (λ made. IsTrue (are_incomparable (O.leq order.now) made)) }
+    {
+        let mut made: Vec<T> = Vec::new(alloc);
+        for item in items.into_vec() {
+            let last = made.len().saturating_sub(1);
+            if !some_below(order, &made[last..], &item) && made.push(item).is_err() {
+                return Err(NoMemory);
+            }
+        }
+        Ok(Antichain { items: made })
     }
 
     /// Puts the item last and takes out the members above it, unless a member is at most it.

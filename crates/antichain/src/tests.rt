@@ -62,6 +62,25 @@ fn keeps_the_minimal_items(rt: HostRuntime) -> Result<(), Fail> {
 }
 
 #[test]
+fn keeps_the_minimal_items_of_an_ordered_list(rt: HostRuntime) -> Result<(), Fail> {
+    let items = List::of(Vec::from_array(rt.alloc(), [2, 2, 4, 3, 5, 8])?);
+    let made = Antichain::of_ordered(rt.alloc(), &Parity, items)?;
+    assert_eq!(rt; made.items(), [2, 3].as_slice());
+    Ok(())
+}
+
+#[test]
+fn keeps_the_minimal_items_of_a_swept_list(rt: HostRuntime) -> Result<(), Fail> {
+    let items = List::of(Vec::from_array(rt.alloc(), [2, 2, 4, 6, 8])?);
+    let made = Antichain::of_swept(rt.alloc(), &Parity, items)?;
+    assert_eq!(rt; made.items(), [2].as_slice());
+    let items = List::of(Vec::from_array(rt.alloc(), [2, 3, 5])?);
+    let made = Antichain::of_swept(rt.alloc(), &Parity, items)?;
+    assert_eq!(rt; made.items(), [2, 3].as_slice());
+    Ok(())
+}
+
+#[test]
 fn inserts(rt: HostRuntime) -> Result<(), Fail> {
     let items = List::of(Vec::from_array(rt.alloc(), [4, 5])?);
     let mut made = Antichain::of(rt.alloc(), &Parity, items)?;

@@ -3,8 +3,9 @@ ghost use Rattle.std.specs.List.{list_all};
 ghost use Rattle.kleene_loop.specs.Ascent.{IsAscent};
 ghost use Rattle.ascent_examples.specs.Rows.{LeadsByRows, ends_from, is_row};
 
+use crate::driver::{Outcomes, ascend};
 use antichain::Antichain;
-use kleene_loop::{Ascent, Outcomes, Relation, ascend};
+use kleene_loop::{Ascent, Relation};
 use order_core::{List, NoMemory, Order};
 use std::alloc::Global;
 

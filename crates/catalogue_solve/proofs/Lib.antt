@@ -1,3 +1,4 @@
 pub mod MinimaLaws
 pub mod MinimaOf
+pub mod NumberRows
 pub mod Rising

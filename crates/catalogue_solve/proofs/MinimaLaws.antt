@@ -1,14 +1,15 @@
 -- The minimal rows of those that provide enough are the minima of the catalogue.
 use Rattle.std.proofs.Common.{◌≡◌, ◌∙◌, refl, ap, subst, ℕ, zero, suc, Bool, true, false, IsTrue, List, [], ◌∷◌, map, filter, cond, slice_get, IsSomeAnd, inl, inr}
 use Rattle.std.specs.List.{list_all, list_any}
-use Rattle.order_core.specs.Members.{IsMember, first, second, both, all_elim, any_elim, any_intro}
+use Rattle.order_core.specs.Members.{IsMember}
+use Rattle.order_core.specs.MemberLaws.{first, second, both, all_elim, any_elim, any_intro}
 use Rattle.order_core.specs.Minimal.{IsMinimal}
 use Rattle.order_core.specs.Order.{IsOrder}
 use Rattle.value_type.specs.declared.port.Port.{Port}
 use Rattle.value_type.specs.declared.poset.Types.{Types}
 use Rattle.value_type.specs.declared.value.Value.{Value}
 use Rattle.value_type.specs.Fits.{row_fits}
-use Rattle.value_type.specs.KindOrder.{row_laws}
+use Rattle.value_type.specs.KindOrderLaws.{row_laws}
 use Rattle.value_type.specs.Leq.{row_leq}
 use Rattle.value_type.specs.PortKinds.{port_kinds}
 use Rattle.design_model.specs.declared.design.CatRow.{CatRow}
@@ -17,7 +18,7 @@ use Rattle.design_model.specs.declared.witness.Witness.{Witness, out-Witness}
 use Rattle.design_model.specs.declared.witness.Witness.TheVariants as witness
 use Rattle.design_model.specs.Feasible.{IsFeasible, AreMinima}
 use Rattle.design_model.specs.Holds.{Fit, Holds, HoldsByRow, RowHolds}
-use Rattle.design_model.specs.HoldsCases.{by_row, of_row}
+use Rattle.design_model.specs.HoldsCaseLaws.{by_row, of_row}
 use Rattle.design_model.specs.HoldsLaws.{Holds-Cat, holds_fits}
 use Rattle.design_model.specs.Parts.{provided_ports, required_ports, rows_of, is_catalogue}
 use Rattle.design_model.specs.PartsLaws.{catalogue_is}

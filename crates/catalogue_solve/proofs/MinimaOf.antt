@@ -3,9 +3,10 @@ use Rattle.std.proofs.Common.{◌≡◌, ◌↔◌, Bool, IsTrue, List, [], Resu
 use Rattle.std.specs.List.Sorted.{IsPermutation}
 use Rattle.antichain.specs.Basis.{IsBasis}
 use Rattle.antichain.specs.Minima.{minima}
-use Rattle.order_core.specs.Members.{IsMember, any_intro}
+use Rattle.order_core.specs.Members.{IsMember}
+use Rattle.order_core.specs.MemberLaws.{any_intro}
 use Rattle.order_core.specs.Minimal.{IsMinimal}
-use Rattle.order_core.specs.Permuted.{members_permuted, members_before}
+use Rattle.order_core.specs.PermutationLaws.{members_permuted, members_before}
 use Rattle.value_type.specs.declared.value.Value.{Value}
 use Rattle.catalogue_solve.specs.Enough.{AreSortedMinima}
 use Rattle.catalogue_solve.proofs.Rising.{are_sorted, kept_rising}

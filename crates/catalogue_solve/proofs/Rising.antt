@@ -8,10 +8,11 @@ use Rattle.std.specs.declared.cmp.Ordering.TheVariants.{Less, Equal, Greater}
 use Rattle.std.proofs.lemmas.List.Sorted.{sorted_far}
 use Rattle.std.proofs.lemmas.List.Sums.{list_all-from_AllPass}
 use Rattle.value_type.specs.declared.value.Value.{Value}
-use Rattle.order_core.specs.Members.{IsMember, first, second, both, all_intro, all_elim}
-use Rattle.antichain.specs.Minima.{is_below, kept}
+use Rattle.order_core.specs.Members.{IsMember}
+use Rattle.order_core.specs.MemberLaws.{first, second, both, all_intro, all_elim}
+use Rattle.antichain.specs.Minima.{is_less, kept}
 use Rattle.value_type.specs.PrintOrder.{row_cmp, is_before, are_rising}
-use Rattle.order_core.specs.TotalOrders.{weak}
+use Rattle.order_core.specs.TotalOrderLaws.{weak}
 use Rattle.value_type.specs.PrintLaws.{row_total, row_same}
 
 -- No row comes before one that stands ahead of it.
@@ -44,12 +45,12 @@ module _ (leq : List Value → List Value → Bool) where
   kept_facts : (before xs : List (List Value)) (z : List Value) → IsMember z (kept leq before xs) → IsMember z xs × (list_any (λ y. leq y z) before ≡ false)
   kept_facts before [] z m = absurd m
   kept_facts before (x ∷ xs) z m =
-      go (list_any (λ y. leq y x) before || list_any (λ y. is_below leq y x) xs) refl (kept_facts (x ∷ before) xs z) m
+      go (list_any (λ y. leq y x) before || list_any (λ y. is_less leq y x) xs) refl (kept_facts (x ∷ before) xs z) m
     where
       later : IsMember z xs × (list_any (λ y. leq y z) (x ∷ before) ≡ false) → IsMember z (x ∷ xs) × (list_any (λ y. leq y z) before ≡ false)
       later p = (inr p.0, right_false (leq x z) _ p.1)
 
-      go : (b : Bool) → (list_any (λ y. leq y x) before || list_any (λ y. is_below leq y x) xs) ≡ b
+      go : (b : Bool) → (list_any (λ y. leq y x) before || list_any (λ y. is_less leq y x) xs) ≡ b
           → (IsMember z (kept leq (x ∷ before) xs) → IsMember z xs × (list_any (λ y. leq y z) (x ∷ before) ≡ false))
           → IsMember z (cond b (kept leq (x ∷ before) xs) (x ∷ kept leq (x ∷ before) xs)) → IsMember z (x ∷ xs) × (list_any (λ y. leq y z) before ≡ false)
       go true e ih k = later (ih k)
@@ -72,7 +73,7 @@ module _ (leq : List Value → List Value → Bool) where
   pub kept_rising : (before xs : List (List Value)) → ((x : List Value) → IsMember x xs → IsTrue (leq x x)) → IsTrue (are_sorted xs) → IsTrue (are_rising (kept leq before xs))
   kept_rising before [] r h = refl
   kept_rising before (x ∷ xs) r h =
-      go (list_any (λ y. leq y x) before || list_any (λ y. is_below leq y x) xs)
+      go (list_any (λ y. leq y x) before || list_any (λ y. is_less leq y x) xs)
       (kept_rising (x ∷ before) xs (λ y m. r y (inr m)) (second (list_all (λ z. not (is_before z x)) xs) _ h))
     where
       differs : (z : List Value) → leq x z ≡ false → x ≡ z → ⊥

@@ -9,12 +9,13 @@ ghost use Rattle.design_model.specs.Feasible.{AreMinima};
 ghost use Rattle.design_model.specs.Parts.{provided_ports, is_catalogue};
 ghost use Rattle.design_model.specs.Typed.{rows_fit};
 ghost use Rattle.catalogue_solve.specs.Enough.{required_by, AreSortedMinima};
+ghost use Rattle.catalogue_solve.specs.Numbers.{are_numbers};
 
 use antichain::Antichain;
 use design_model::{CatRow, Design};
 use order_core::{List, NoMemory};
 use std::alloc::Global;
-use value_type::{Port, Row, RowOrder, Types, kinds_of, ports_leq, print_order_rows};
+use value_type::{Kind, Port, Row, RowOrder, Types, kinds_of, ports_leq, print_order_rows};
 
 /// What the rows require that provide enough.
 fn enough(
@@ -46,14 +47,27 @@ fn sort_rows(rows: &mut Vec<Row>)
     rows.sort_unstable_by(|a, b| print_order_rows(a, b));
 }
 
+/// Whether all types are of numbers.
+fn are_numbers(kinds: &[Kind]) -> bool
+    ensures { result ≡ are_numbers kinds.now }
+{
+    kinds.iter().all(|kind| matches!(kind, Kind::Num(_)))
+}
+
 /// The minimal rows of a list that is in print order.
 fn minima_of(alloc: Global, order: &RowOrder, rows: Vec<Row>) -> Result<List<Row>, NoMemory>
     requires fit { IsTrue (list_all (row_fits order.now.types.now order.now.kinds) rows.items) }
     requires sorted { IsSortedBy is_before rows.items }
     ensures { IfOk result (AreSortedMinima (row_leq order.now.types.now order.now.kinds) rows.items) }
 {
-    let minima = Antichain::of(alloc, order, List::of(rows))?;
-    Ok(minima.into_list())
+    let rows = List::of(rows);
+    if !are_numbers(order.kinds.items()) {
+        return Ok(Antichain::of(alloc, order, rows)?.into_list());
+    }
+    if order.kinds.items().len() == 2 {
+        return Ok(Antichain::of_swept(alloc, order, rows)?.into_list());
+    }
+    Ok(Antichain::of_ordered(alloc, order, rows)?.into_list())
 }
 
 /// The minimal rows of a list, in print order.
@@ -87,6 +101,6 @@ pub fn minimal_rows(
     requires f_fits { IsTrue (row_fits types.now (port_kinds (provided_ports design.now)) f.now) }
     ensures { IfOk result (AreMinima types.now design.now f.now) }
 {
-    let found = enough(alloc, types, design.provides(), design.rows(), f)?;
-    sorted_minima(alloc, types, design.requires_(), found)
+    let found = enough(alloc, types, design.provided_ports(), design.rows(), f)?;
+    sorted_minima(alloc, types, design.required_ports(), found)
 }

@@ -42,14 +42,7 @@ fn row(alloc: Global, written: &[Written]) -> Result<Row, Fail> {
 }
 
 fn number_kind() -> Kind {
-    Kind::Num(Dim {
-        mass: 0,
-        length: 0,
-        time: 0,
-        current: 0,
-        money: 0,
-        bits: 0,
-    })
+    Kind::Num(Dim::NONE)
 }
 
 fn port(alloc: Global, name: &str, kind: Kind) -> Result<Port, Fail> {
@@ -119,7 +112,12 @@ fn all_fit(types: &Types, provides: &[Port], requires_: &[Port], rows: &[CatRow]
 fn rows_fit(types: &Types, design: &Design) -> bool
     ensures { result ≡ rows_fit types.now design.now }
 {
-    all_fit(types, design.provides(), design.requires_(), design.rows())
+    all_fit(
+        types,
+        design.provided_ports(),
+        design.required_ports(),
+        design.rows(),
+    )
 }
 
 /// Whether the design is a catalogue.
@@ -157,7 +155,7 @@ fn expect_minima(
 ) -> Result<(), Fail> {
     let f = row(alloc, &[f])?;
     assert!(rt; is_catalogue(design));
-    assert!(rt; rows_fit(types, design) && ports_fit(types, design.provides(), f.values()));
+    assert!(rt; rows_fit(types, design) && ports_fit(types, design.provided_ports(), f.values()));
     let found = minimal_rows(alloc, types, design, &f)?;
     assert_eq!(rt; found.items().len(), wants.len());
     for (found, want) in found.items().iter().zip(wants) {

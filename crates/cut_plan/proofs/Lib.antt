@@ -1,0 +1,10 @@
+pub mod ColumnLaws
+pub mod CutLaws
+pub mod DifferentLemmas
+pub mod MostLemmas
+pub mod NetHeightsLemmas
+pub mod OrderLemmas
+pub mod ReadLemmas
+pub mod SignalLemmas
+pub mod SumLaws
+pub mod TurnLemmas

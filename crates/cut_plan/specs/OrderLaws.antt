@@ -1,18 +1,13 @@
 -- That the turns take each part once.
+use Rattle.std.proofs.Common.{refl, sym, ap, inl, inr, arith}
+use Rattle.std.proofs.lemmas.Bool.{cases_eq}
 use Rattle.std.specs.Prelude.{◌≡◌, ◌≢◌, ◌⊎◌, ℕ, zero, suc, ◌+◌, ◌<◌, ◌≤◌, Bool, true, false, not, cond, ◌==◌, List, [], ◌∷◌, length, get_or, filter}
-use Rattle.std.proofs.Common.{refl, sym, ap, inl, inr, arith, add-one}
-use Rattle.std.proofs.lemmas.Bool.{cases_eq, eq-eqb, ne_eqb}
-use Rattle.order_core.specs.Members.{IsMember, mem-filter, filter-mem}
+use Rattle.cut_plan.specs.OrderOf.{IsOrderOf}
 use Rattle.cut_plan.specs.TurnLaws.{next_member, is_other, is_itself, many_numbers}
-use Rattle.design_model.specs.Evaluation.{next, without, turns, numbers_from, evaluation_order, part_reads, place}
+use Rattle.design_model.specs.Evaluation.{next, without, turns, numbers_from, evaluation_order, part_reads}
 use Rattle.design_model.specs.Wiring.{Wiring}
-
--- The list has n items, each number below n and no other, and none of them twice.
-pub record IsOrderOf (n : ℕ) (order : List ℕ) : Type 0 where
-  pub size : length order ≡ n
-  pub below : (p : ℕ) → IsMember p order → p < n
-  pub all : (p : ℕ) → p < n → IsMember p order
-  pub once : (i j : ℕ) → i < j → j < length order → get_or order i 0 ≢ get_or order j 0
+use Rattle.order_core.specs.MemberLaws.{mem-filter, filter-mem}
+use Rattle.order_core.specs.Members.{IsMember}
 
 -- No item of the list occurs twice.
 abbrev pub Once : List ℕ → Type 0
@@ -127,41 +122,3 @@ turns_order r n =
 -- The order of evaluation of a net takes each of its parts once.
 pub order_is : (net : Wiring) → IsOrderOf (length net.provided) (evaluation_order net)
 order_is net = turns_order (part_reads net.constraints) (length net.provided)
-
--- how the places follow from the order
-pub place_at : (n : ℕ) (order : List ℕ) → IsOrderOf n order → (i : ℕ) → i < length order → place order (get_or order i 0) ≡ i
-place_at n order h i k = at order i h.once k
-  where
-    at : (xs : List ℕ) (i : ℕ) → ((i j : ℕ) → i < j → j < length xs → get_or xs i 0 ≢ get_or xs j 0) → i < length xs → place xs (get_or xs i 0) ≡ i
-    at [] i once l = absurd (omega arith)
-    at (x ∷ xs) zero once l = rw (eq-eqb x x refl) refl
-    at (x ∷ xs) (suc i) once l =
-        rw (ne_eqb x (get_or xs i 0) (once 0 (suc i) (omega arith) l)) (omega (arith, at xs i (λ j k a b. once (suc j) (suc k) (omega arith) (omega arith)) (omega arith)))
-
-pub place_within : (order : List ℕ) (p : ℕ) → IsMember p order → place order p < length order
-place_within [] p m = absurd m
-place_within (q ∷ order) p m = at (cases_eq q p) m (place_within order p)
-  where
-    at : (q ≡ p) ⊎ (q ≡ p → ⊥) → IsMember p (q ∷ order) → (IsMember p order → place order p < length order) → place (q ∷ order) p < length (q ∷ order)
-    at (inl e) k ih = rw (eq-eqb q p e) (omega arith)
-    at (inr e) (inl f) ih = absurd (e (sym f))
-    at (inr e) (inr k) ih = rw (ne_eqb q p e) (omega (arith, ih k))
-
-pub place_member : (order : List ℕ) (p : ℕ) → place order p < length order → IsMember p order
-place_member [] p h = absurd (omega arith)
-place_member (q ∷ order) p h = at (cases_eq q p) (place_member order p)
-  where
-    at : (q ≡ p) ⊎ (q ≡ p → ⊥) → (place order p < length order → IsMember p order) → IsMember p (q ∷ order)
-    at (inl e) ih = inl (sym e)
-    at (inr e) ih =
-        let more : place order p + 1 < length (q ∷ order) = rw (ne_eqb q p e) at h in
-        inr (ih (omega (arith, more)))
-
-pub at_place : (order : List ℕ) (p : ℕ) → IsMember p order → get_or order (place order p) 0 ≡ p
-at_place [] p m = absurd m
-at_place (q ∷ order) p m = at (cases_eq q p) m (at_place order p)
-  where
-    at : (q ≡ p) ⊎ (q ≡ p → ⊥) → IsMember p (q ∷ order) → (IsMember p order → get_or order (place order p) 0 ≡ p) → get_or (q ∷ order) (place (q ∷ order) p) 0 ≡ p
-    at (inl e) k ih = rw (eq-eqb q p e) e
-    at (inr e) (inl f) ih = absurd (e (sym f))
-    at (inr e) (inr k) ih = rw (ne_eqb q p e, add-one) (ih k)

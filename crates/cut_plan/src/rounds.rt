@@ -105,7 +105,7 @@ fn heights_of_ports(
     ensures { IfOk result (λ found. found ≡ clipped (sum_all (port_heights types.now design.now listed.now number 0 (required_ports design.now)))) }
 {
     let mut total: u64 = 0;
-    for (port, declared) in design.requires_().iter().enumerate() {
+    for (port, declared) in design.required_ports().iter().enumerate() {
         let is_cut = is_listed(listed, number, port);
         let Some(height) = height_if(alloc, types, design, is_cut, port, &declared.kind)? else {
             return Ok(None);

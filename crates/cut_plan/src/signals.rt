@@ -3,7 +3,7 @@ ghost use Rattle.std.specs.Option.{option_copied};
 ghost use Rattle.order_core.specs.Pointwise.{Each};
 ghost use Rattle.cut_plan.specs.CutReads.{late_reads, is_late, is_listed, late_at, listed_ports, listed_signals};
 ghost use Rattle.cut_plan.specs.Nets.{HasFewPorts};
-ghost use Rattle.cut_plan.specs.OrderLaws.{IsOrderOf};
+ghost use Rattle.cut_plan.specs.OrderOf.{IsOrderOf};
 ghost use Rattle.design_model.specs.Evaluation.{place};
 ghost use Rattle.design_model.specs.Typed.{IsFew};
 
@@ -82,7 +82,7 @@ pub fn listed_signals(
 {
     let mut signals = Vec::new(alloc);
     for (number, part) in parts.iter().enumerate() {
-        let count = part.design.requires_().len() as u32;
+        let count = part.design.required_ports().len() as u32;
         push_listed(number as u32, count, listed, &mut signals)?;
     }
     Ok(signals)

@@ -17,14 +17,7 @@ fn text(alloc: Global, text: &str) -> Result<Text, AllocError> {
 }
 
 fn number_kind() -> Kind {
-    Kind::Num(Dim {
-        mass: 0,
-        length: 0,
-        time: 0,
-        current: 0,
-        money: 0,
-        bits: 0,
-    })
+    Kind::Num(Dim::NONE)
 }
 
 fn one_port(alloc: Global, kind: Kind) -> Result<List<Port>, Fail> {
@@ -131,7 +124,7 @@ fn have_few_ports(parts: &[Part]) -> bool
     ensures { IsTrue result → Each HasFewPorts parts.now }
 {
     for part in parts {
-        if part.design.requires_().len() >= 4_294_967_296 {
+        if part.design.required_ports().len() >= 4_294_967_296 {
             return false;
         }
     }

@@ -8,7 +8,8 @@ use Rattle.std.specs.Str.{bytes_eq}
 use Rattle.design_world.specs.declared.world.Content.{Content}
 use Rattle.design_world.specs.declared.world.Content.TheVariants.{Whole, Longer}
 use Rattle.design_world.specs.Files.{File, GivesContent, GivesFile, first_named, names_of}
-use Rattle.order_core.specs.Members.{IsMember, first, second, all_elim, mem-map, map-mem, mem-filter, filter-mem, mem-right, mem-split}
+use Rattle.order_core.specs.Members.{IsMember}
+use Rattle.order_core.specs.MemberLaws.{first, second, all_elim, mem-map, map-mem, mem-filter, filter-mem, mem-right, mem-split}
 use Rattle.design_cli.specs.declared.library.NamedDesign.{NamedDesign}
 use Rattle.design_cli.specs.declared.library.FileRead.{FileRead}
 use Rattle.design_cli.specs.ByteOrder.{is_before}
@@ -19,8 +20,8 @@ use Rattle.plain_form.specs.Names.{is_name, is_recognised}
 use Rattle.plain_form.specs.Texts.{before_text}
 use Rattle.design_cli.proofs.FoundLaws.{found_written, written_whole}
 use Rattle.design_cli.proofs.NameCounts.{times, in_order, sorted_order, ahead_of_all, stands_once, stands_twice, times_listed, never_itself}
-use Rattle.order_core.specs.Permuted.{members_permuted, members_before, member_from_all}
-use Rattle.plain_form.specs.Texts.{before_append, before_some, same_bytes, bytes_same}
+use Rattle.order_core.specs.PermutationLaws.{members_permuted, members_before, member_from_all}
+use Rattle.plain_form.specs.TextLaws.{before_append, before_some, same_bytes, bytes_same}
 
 -- how many files have the name, by their names
 named_times : (name : List ℕ) (files : List File) → times_named files name ≡ times name (names_of files)

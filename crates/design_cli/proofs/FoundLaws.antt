@@ -16,9 +16,10 @@ use Rattle.std.specs.Str.{bytes_eq}
 use Rattle.design_cli.specs.declared.status.Status.{Status}
 use Rattle.design_cli.specs.declared.status.Status.TheVariants.{Done, Usage, LibraryRefused, QueryRefused, FolderFault, SinkFault, Memory}
 use Rattle.design_cli.specs.declared.status.QueryFault.TheVariants as query
-use Rattle.design_cli.specs.Outcome.{AnswersQuery, Replies}
+use Rattle.design_cli.specs.FileAnswers.{IsQueryAnswer, IsFilesAnswer}
 use Rattle.design_cli.specs.Posets.{no_posets}
-use Rattle.plain_form.specs.Fitting.{HasNumberPorts, plain_catalogue, plain_fits, plain_ports}
+use Rattle.plain_form.specs.Fitting.{HasNumberPorts}
+use Rattle.plain_form.specs.FittingLaws.{plain_catalogue, plain_fits, plain_ports}
 
 pub mapped_some : {A B : Type 0} (f : A → B) (o : Option A) (y : B) → Some y ≡ option_map f o → (x : A) × (o ≡ Some x) × (f x ≡ y)
 mapped_some f None y h = absurd (cc)
@@ -64,7 +65,7 @@ module _ (p : NamedDesign → Bool) (files : List FileRead) (designs : List Name
   found_ports = plain_ports no_posets plain.0 catalogue plain.1
 
 replies : (files : List FileRead) (designs : List NamedDesign) (design : NamedDesign) (name asked : List ℕ) → AllWrite files designs
-    → find (λ design. bytes_eq design.name name) designs ≡ Some design → (r : Result (List ℕ) Status) → AnswersQuery design.design asked r → Replies files name asked r
+    → find (λ design. bytes_eq design.name name) designs ≡ Some design → (r : Result (List ℕ) Status) → IsQueryAnswer design.design asked r → IsFilesAnswer files name asked r
 replies files designs design name asked w e (Ok text) h = record { designs = designs; written = w; design = design; found = e; report_of = h }
 replies files designs design name asked w e (Err (QueryRefused query.NotYet)) h = record { designs = designs; written = w; design = design; found = e; none = h }
 replies files designs design name asked w e (Err (QueryRefused query.NoDesign)) h = absurd h
@@ -77,7 +78,7 @@ replies files designs design name asked w e (Err SinkFault) h = absurd h
 
 pub replies_found : (files : List FileRead) (designs : List NamedDesign) (name asked : List ℕ) → AllWrite files designs → (catalogue : Design)
     → Some catalogue ≡ option_map (λ design. design.design) (find (λ design. bytes_eq design.name name) designs)
-    → (r : Result (List ℕ) Status) → AnswersQuery catalogue asked r → Replies files name asked r
+    → (r : Result (List ℕ) Status) → IsQueryAnswer catalogue asked r → IsFilesAnswer files name asked r
 replies_found files designs name asked w catalogue e r h =
     let d = mapped_some (λ (design : NamedDesign). design.design) (find (λ design. bytes_eq design.name name) designs) catalogue e in
-    replies files designs d.0 name asked w d.1 r (subst (λ (x : Design). AnswersQuery x asked r) (sym d.2) h)
+    replies files designs d.0 name asked w d.1 r (subst (λ (x : Design). IsQueryAnswer x asked r) (sym d.2) h)

@@ -1,7 +1,7 @@
+pub mod BridgeLaws
+pub mod FoundLaws
 pub mod JudgedLaws
 pub mod ListingLaws
-pub mod FoundLaws
 pub mod NameCounts
-pub mod BridgeLaws
-pub mod SolveLaws
 pub mod RunLaws
+pub mod SolveLaws

@@ -1,11 +1,12 @@
 -- The files that are read stand in the folder.
 use Rattle.std.proofs.Common.{refl, sym, ℕ, zero, suc, ◌<◌, List, [], ◌∷◌, length, get_or, filter, arith, inl, inr}
 use Rattle.std.specs.List.{All, Contains}
-use Rattle.order_core.specs.Members.{IsMember, mem-filter}
+use Rattle.order_core.specs.Members.{IsMember}
+use Rattle.order_core.specs.MemberLaws.{mem-filter}
 use Rattle.design_world.specs.Files.{File, HasNamed, names_of}
 use Rattle.design_cli.specs.Listing.{AreListed}
 use Rattle.plain_form.specs.Names.{is_recognised}
-use Rattle.order_core.specs.Permuted.{members_permuted}
+use Rattle.order_core.specs.PermutationLaws.{members_permuted}
 
 pub member_at : {A : Type 0} (xs : List A) (k : ℕ) (d : A) → k < length xs → IsMember (get_or xs k d) xs
 member_at [] k d inside = absurd (omega arith)

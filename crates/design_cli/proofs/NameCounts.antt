@@ -11,11 +11,12 @@ use Rattle.std.proofs.lemmas.Cmp.{nat_list_cmp_total}
 use Rattle.std.proofs.lemmas.List.Sorted.{sorted_far, sum_by-IsPermutation}
 use Rattle.std.proofs.lemmas.List.Sums.{length-filter, list_all-from_AllPass}
 use Rattle.std.proofs.lemmas.Map.Lookups.{exact_bytes}
-use Rattle.order_core.specs.Members.{IsMember, first, second, both, all_elim, not_true}
+use Rattle.order_core.specs.Members.{IsMember}
+use Rattle.order_core.specs.MemberLaws.{first, second, both, all_elim, not_true}
 use Rattle.design_cli.specs.ByteOrder.{is_before}
 use Rattle.plain_form.specs.Names.{is_recognised}
-use Rattle.order_core.specs.TotalOrders.{weak}
-use Rattle.plain_form.specs.Texts.{same_bytes, bytes_same}
+use Rattle.order_core.specs.TotalOrderLaws.{weak}
+use Rattle.plain_form.specs.TextLaws.{same_bytes, bytes_same}
 
 -- how often the name stands in the list
 abbrev pub times : List ℕ → List (List ℕ) → ℕ

@@ -16,7 +16,8 @@ use Rattle.design_cli.specs.declared.status.QueryFault.TheVariants as query
 use Rattle.design_cli.specs.ByteOrder.{is_before}
 use Rattle.design_model.specs.Feasible.{AreMinima}
 use Rattle.design_cli.specs.Library.{AreAccepted, IsDesign, IsFirstRefused, times_named}
-use Rattle.design_cli.specs.Outcome.{HasNoDesign, HasNoQuery, EndsEarly, IsReport, IsReportOf, Replies, Says, Solves, Writing}
+use Rattle.design_cli.specs.FileAnswers.{IsFilesAnswer}
+use Rattle.design_cli.specs.Outcome.{HasNoDesign, HasNoQuery, EndsEarly, Asks, IsReport, IsReportOf, IsOutcome, IsFolderAnswer, Writing}
 use Rattle.plain_form.specs.Plain.{IsPlain, IsQuery}
 use Rattle.design_cli.specs.Posets.{no_posets}
 use Rattle.design_cli.specs.Report.{report}
@@ -26,8 +27,8 @@ use Rattle.design_cli.specs.Words.{Asked}
 use Rattle.design_cli.proofs.BridgeLaws.{found_once}
 use Rattle.plain_form.proofs.CatalogueLaws.{catalogue_back, query_back}
 use Rattle.design_cli.proofs.NameCounts.{before_or_same}
-use Rattle.plain_form.specs.Fitting.{plain_ports}
-use Rattle.plain_form.specs.Texts.{bytes_same}
+use Rattle.plain_form.specs.FittingLaws.{plain_ports}
+use Rattle.plain_form.specs.TextLaws.{bytes_same}
 
 -- What holds of the question holds of each question that the words ask.
 pub for_question : (P : Asked → Type 0) (o : Option Asked) (q : Asked) → Some q ≡ o → P q → ForSome o P
@@ -54,7 +55,7 @@ same_query text ports f g w x y = let fx = query_back ports text f w x in let gy
 
 -- ---- which statuses come when
 
-pub ends_early : (files : List FileRead) (name asked : List ℕ) (reply : Result (List ℕ) Status) → Replies files name asked reply → IfErr reply EndsEarly
+pub ends_early : (files : List FileRead) (name asked : List ℕ) (reply : Result (List ℕ) Status) → IsFilesAnswer files name asked reply → IfErr reply EndsEarly
 ends_early files name asked (Ok text) h = record {}
 ends_early files name asked (Err Done) h = absurd h
 ends_early files name asked (Err Usage) h = absurd h
@@ -82,7 +83,7 @@ done_or_memory (QueryRefused fault) h = inl (h (λ e. cc))
 -- ---- what is said of a result
 
 module _ (files : List File) (name asked : List ℕ) where
-  pub says_written : (text : List ℕ) (before now : Option (List ℕ)) (status : Status) → IsReport files name asked text → Writing text before now status → Says files name asked before now status
+  pub says_written : (text : List ℕ) (before now : Option (List ℕ)) (status : Status) → IsReport files name asked text → Writing text before now status → IsOutcome files name asked before now status
   says_written text before now Done r w = (text, r, w)
   says_written text before now SinkFault r w = (text, r, w.0, w.1)
   says_written text before now Memory r w = inr (text, r, w.0, w.1)
@@ -91,7 +92,7 @@ module _ (files : List File) (name asked : List ℕ) where
   says_written text before now (QueryRefused fault) r w = absurd w
   says_written text before now FolderFault r w = absurd w
 
-  pub says_refused : (before : Option (List ℕ)) (status : Status) → Solves files name asked (Err status) → Says files name asked before before status
+  pub says_refused : (before : Option (List ℕ)) (status : Status) → IsFolderAnswer files name asked (Err status) → IsOutcome files name asked before before status
   says_refused before (LibraryRefused fault) h = (h, refl)
   says_refused before (QueryRefused fault) h = (h, refl)
   says_refused before FolderFault h = refl
@@ -100,13 +101,22 @@ module _ (files : List File) (name asked : List ℕ) where
   says_refused before Usage h = absurd h
   says_refused before SinkFault h = absurd h
 
-  module _ (before now : Option (List ℕ)) (status : Status) (says : Says files name asked before now status)
+  module _ (before now : Option (List ℕ)) (status : Status) (says : IsOutcome files name asked before now status)
       (folder : status ≢ FolderFault) (memory : status ≢ Memory) where
-    pub headline_of : (sink : status ≢ SinkFault) (catalogue : Design) (f : List Value) → AreAccepted files → IsDesign files name catalogue → IsQuery asked (provided_ports catalogue) f
+    pub headline_of : (place : List ℕ) (sink : status ≢ SinkFault) (catalogue : Design) (f : List Value) → Asks (record { place = place; name = name; query = asked }) files catalogue f
         → (status ≡ Done) × (rows : List (List Value)) × AreMinima no_posets catalogue f rows × (now ≡ followed before (report (required_ports catalogue) rows))
-    headline_of sink catalogue f a d q = go status refl says
+    headline_of place sink catalogue f asks = go status refl says
       where
-        go : (s : Status) → status ≡ s → Says files name asked before now s → (status ≡ Done) × (rows : List (List Value)) × AreMinima no_posets catalogue f rows × (now ≡ followed before (report (required_ports catalogue) rows))
+        a : AreAccepted files
+        a = asks.accepted
+
+        d : IsDesign files name catalogue
+        d = asks.design
+
+        q : IsQuery asked (provided_ports catalogue) f
+        q = asks.is_query
+
+        go : (s : Status) → status ≡ s → IsOutcome files name asked before now s → (status ≡ Done) × (rows : List (List Value)) × AreMinima no_posets catalogue f rows × (now ≡ followed before (report (required_ports catalogue) rows))
         go Done e (text, r, w) =
             let c : r.catalogue ≡ catalogue = same_design files name r.catalogue catalogue a r.design d in
             let of : IsReportOf catalogue asked text = subst (λ (x : Design). IsReportOf x asked text) c r.report_of in
@@ -140,7 +150,7 @@ module _ (files : List File) (name asked : List ℕ) where
     pub library_of : (file : List ℕ) → IsFirstRefused files file → status ≡ LibraryRefused (library.NotYet file)
     library_of file r = go status refl says
       where
-        go : (s : Status) → status ≡ s → Says files name asked before now s → status ≡ LibraryRefused (library.NotYet file)
+        go : (s : Status) → status ≡ s → IsOutcome files name asked before now s → status ≡ LibraryRefused (library.NotYet file)
         go Done e (text, h, w) = absurd (not_accepted file r h.accepted)
         go (LibraryRefused (library.NotYet other)) e h = e ∙ ap (λ (n : List ℕ). LibraryRefused (library.NotYet n)) (one_first other file h.0 r)
         go (QueryRefused query.NoDesign) e h = absurd (not_accepted file r h.0.accepted)
@@ -153,7 +163,7 @@ module _ (files : List File) (name asked : List ℕ) where
     pub no_design_of : HasNoDesign files name → status ≡ QueryRefused query.NoDesign
     no_design_of n = go status refl says
       where
-        go : (s : Status) → status ≡ s → Says files name asked before now s → status ≡ QueryRefused query.NoDesign
+        go : (s : Status) → status ≡ s → IsOutcome files name asked before now s → status ≡ QueryRefused query.NoDesign
         go Done e (text, h, w) = absurd (n.none h.catalogue h.design)
         go (LibraryRefused (library.NotYet other)) e h = absurd (not_accepted other h.0 n.accepted)
         go (QueryRefused query.NoDesign) e h = e
@@ -172,7 +182,7 @@ module _ (files : List File) (name asked : List ℕ) where
             let of : IsReportOf n.catalogue asked text = subst (λ (x : Design). IsReportOf x asked text) c h.report_of in
             absurd (n.none of.f of.is_query)
 
-        go : (s : Status) → status ≡ s → Says files name asked before now s → status ≡ QueryRefused query.NotYet
+        go : (s : Status) → status ≡ s → IsOutcome files name asked before now s → status ≡ QueryRefused query.NotYet
         go Done e (text, h, w) = clash text h
         go (LibraryRefused (library.NotYet other)) e h = absurd (not_accepted other h.0 n.accepted)
         go (QueryRefused query.NoDesign) e h = absurd (h.0.none n.catalogue n.design)

@@ -9,12 +9,13 @@ use Rattle.design_cli.specs.declared.status.LibraryFault.TheVariants as library
 use Rattle.design_cli.specs.declared.status.QueryFault.TheVariants as query
 use Rattle.design_cli.specs.ByteOrder.{is_before}
 use Rattle.design_cli.specs.Listing.{AreListed, AreRead}
-use Rattle.design_cli.specs.Outcome.{Replies, Solves}
+use Rattle.design_cli.specs.FileAnswers.{IsFilesAnswer}
+use Rattle.design_cli.specs.Outcome.{IsFolderAnswer}
 use Rattle.design_cli.proofs.BridgeLaws.{accepts, refuses, design_found, design_missing}
 
 module _ (files : List File) (reads : List FileRead) (listed : AreListed files (map (λ read. read.name) reads))
     (sorted : IsSortedBy is_before (map (λ read. read.name) reads)) (contents : AreRead files reads) (name asked : List ℕ) where
-  pub solves : (r : Result (List ℕ) Status) → Replies reads name asked r → Solves files name asked r
+  pub solves : (r : Result (List ℕ) Status) → IsFilesAnswer reads name asked r → IsFolderAnswer files name asked r
   solves (Ok text) h = record {
     accepted = accepts files reads listed sorted contents h.designs h.written;
     catalogue = h.design.design;

@@ -1,4 +1,7 @@
+-- Read Outcome first: what a run answers. Then Library, Report and Words. Modules whose names end in Laws hold
+-- lemmas.
 pub mod ByteOrder
+pub mod FileAnswers
 pub mod Judged
 pub mod Library
 pub mod Lines

@@ -1,11 +1,9 @@
 -- What `solve` answers.
-use Rattle.std.specs.Prelude.{◌≡◌, ◌⊎◌, ℕ, List, Option, Some, None, Result, Ok, Err, take, find}
-use Rattle.std.specs.Str.{bytes_eq}
+use Rattle.std.specs.Option.{ForSome}
+use Rattle.std.specs.Prelude.{◌≡◌, ◌⊎◌, ℕ, List, Option, Some, None, Result, Ok, Err, take}
 use Rattle.value_type.specs.declared.value.Value.{Value}
 use Rattle.design_world.specs.Bytes.{followed}
 use Rattle.design_world.specs.Files.{File}
-use Rattle.design_cli.specs.declared.library.NamedDesign.{NamedDesign}
-use Rattle.design_cli.specs.declared.library.FileRead.{FileRead}
 use Rattle.design_model.specs.declared.design.Design.{Design}
 use Rattle.design_cli.specs.declared.status.Status.{Status}
 use Rattle.design_cli.specs.declared.status.Status.TheVariants.{Done, Usage, LibraryRefused, QueryRefused, FolderFault, SinkFault, Memory}
@@ -14,12 +12,22 @@ use Rattle.design_cli.specs.declared.status.LibraryFault.TheVariants as library
 use Rattle.design_cli.specs.declared.status.QueryFault.{QueryFault}
 use Rattle.design_cli.specs.declared.status.QueryFault.TheVariants as query
 use Rattle.design_model.specs.Feasible.{AreMinima}
-use Rattle.design_cli.specs.Judged.{AllWrite, FirstWritesNone}
 use Rattle.design_cli.specs.Library.{AreAccepted, IsDesign, IsFirstRefused}
 use Rattle.plain_form.specs.Plain.{IsQuery}
 use Rattle.design_cli.specs.Report.{report}
 use Rattle.design_model.specs.Parts.{provided_ports, required_ports}
+use Rattle.design_cli.specs.Words.{Asked, asked_by}
 use Rattle.design_cli.specs.Posets.{no_posets}
+
+-- The library is accepted, has the design of this name, and the text writes this query of it.
+pub record Asks (asked : Asked) (files : List File) (catalogue : Design) (f : List Value) : Type 0 where
+  pub accepted : AreAccepted files
+  pub design : IsDesign files asked.name catalogue
+  pub is_query : IsQuery asked.query (provided_ports catalogue) f
+
+-- What holds of the question that the words ask, and of the files of the folder that it names.
+abbrev pub ForAsked : List (List ℕ) → (List ℕ → Option (List File)) → (Asked → List File → Type 0) → Type 0
+ForAsked words folder P = ForSome (asked_by words) (λ asked. ForSome (folder asked.place) (λ files. P asked files))
 
 -- The text is the report of the minima of a catalogue for what the query writes.
 pub record IsReportOf (catalogue : Design) (asked text : List ℕ) : Type 0 where
@@ -28,8 +36,6 @@ pub record IsReportOf (catalogue : Design) (asked text : List ℕ) : Type 0 wher
   pub rows : List (List Value)
   pub minima : AreMinima no_posets catalogue f rows
   pub text_is : text ≡ report (required_ports catalogue) rows
-
--- ---- of the files of a folder
 
 -- The library is accepted, and the text is the report of its design of this name.
 pub record IsReport (files : List File) (name asked text : List ℕ) : Type 0 where
@@ -63,71 +69,23 @@ abbrev pub WroteFirst : List File → List ℕ → List ℕ → Option (List ℕ
 WroteFirst files name asked before now = (text : List ℕ) × IsReport files name asked text × (count : ℕ) × (now ≡ followed before (take count text))
 
 -- What a status says of the files, the design's name and the query, and of the bytes that were written before and now.
-abbrev pub Says : List File → List ℕ → List ℕ → Option (List ℕ) → Option (List ℕ) → Status → Type 0
-Says files name asked before now Done = (text : List ℕ) × IsReport files name asked text × (now ≡ followed before text)
-Says files name asked before now (LibraryRefused fault) = IsLibraryRefusal files fault × (now ≡ before)
-Says files name asked before now (QueryRefused fault) = IsQueryRefusal files name asked fault × (now ≡ before)
-Says files name asked before now FolderFault = now ≡ before
-Says files name asked before now SinkFault = WroteFirst files name asked before now
-Says files name asked before now Memory = (now ≡ before) ⊎ WroteFirst files name asked before now
-Says files name asked before now Usage = ⊥
-
--- ---- of the files that were read
-
--- Each file writes its design, and the text is the report of the one of this name.
-pub record Answers (files : List FileRead) (name asked text : List ℕ) : Type 0 where
-  pub designs : List NamedDesign
-  pub written : AllWrite files designs
-  pub design : NamedDesign
-  pub found : find (λ design. bytes_eq design.name name) designs ≡ Some design
-  pub report_of : IsReportOf design.design asked text
-
-pub record FindsNone (files : List FileRead) (name : List ℕ) : Type 0 where
-  pub designs : List NamedDesign
-  pub written : AllWrite files designs
-  pub none : find (λ design. bytes_eq design.name name) designs ≡ None
-
-pub record AsksNone (files : List FileRead) (name asked : List ℕ) : Type 0 where
-  pub designs : List NamedDesign
-  pub written : AllWrite files designs
-  pub design : NamedDesign
-  pub found : find (λ design. bytes_eq design.name name) designs ≡ Some design
-  pub none : (f : List Value) → IsQuery asked (provided_ports design.design) f → ⊥
-
-abbrev pub RefusesQuery : List FileRead → List ℕ → List ℕ → QueryFault → Type 0
-RefusesQuery files name asked query.NoDesign = FindsNone files name
-RefusesQuery files name asked query.NotYet = AsksNone files name asked
-
-abbrev pub RefusesLibrary : List FileRead → LibraryFault → Type 0
-RefusesLibrary files (library.NotYet file) = FirstWritesNone files file
-
--- What a refusal says of the files that were read.
-abbrev pub Refuses : List FileRead → List ℕ → List ℕ → Status → Type 0
-Refuses files name asked (LibraryRefused fault) = RefusesLibrary files fault
-Refuses files name asked (QueryRefused fault) = RefusesQuery files name asked fault
-Refuses files name asked Memory = Unit {0}
-Refuses files name asked status = ⊥
-
--- What the answer to a question says of the files that were read: a report, or a refusal.
-abbrev pub Replies : List FileRead → List ℕ → List ℕ → Result (List ℕ) Status → Type 0
-Replies files name asked (Ok text) = Answers files name asked text
-Replies files name asked (Err status) = Refuses files name asked status
-
--- What the answer to a query says of the catalogue.
-abbrev pub AnswersQuery : Design → List ℕ → Result (List ℕ) Status → Type 0
-AnswersQuery catalogue asked (Ok text) = IsReportOf catalogue asked text
-AnswersQuery catalogue asked (Err (QueryRefused query.NotYet)) = (f : List Value) → IsQuery asked (provided_ports catalogue) f → ⊥
-AnswersQuery catalogue asked (Err Memory) = Unit {0}
-AnswersQuery catalogue asked (Err status) = ⊥
+abbrev pub IsOutcome : List File → List ℕ → List ℕ → Option (List ℕ) → Option (List ℕ) → Status → Type 0
+IsOutcome files name asked before now Done = (text : List ℕ) × IsReport files name asked text × (now ≡ followed before text)
+IsOutcome files name asked before now (LibraryRefused fault) = IsLibraryRefusal files fault × (now ≡ before)
+IsOutcome files name asked before now (QueryRefused fault) = IsQueryRefusal files name asked fault × (now ≡ before)
+IsOutcome files name asked before now FolderFault = now ≡ before
+IsOutcome files name asked before now SinkFault = WroteFirst files name asked before now
+IsOutcome files name asked before now Memory = (now ≡ before) ⊎ WroteFirst files name asked before now
+IsOutcome files name asked before now Usage = ⊥
 
 -- What solving says of the files of the folder.
-abbrev pub Solves : List File → List ℕ → List ℕ → Result (List ℕ) Status → Type 0
-Solves files name asked (Ok text) = IsReport files name asked text
-Solves files name asked (Err (LibraryRefused fault)) = IsLibraryRefusal files fault
-Solves files name asked (Err (QueryRefused fault)) = IsQueryRefusal files name asked fault
-Solves files name asked (Err FolderFault) = Unit {0}
-Solves files name asked (Err Memory) = Unit {0}
-Solves files name asked (Err status) = ⊥
+abbrev pub IsFolderAnswer : List File → List ℕ → List ℕ → Result (List ℕ) Status → Type 0
+IsFolderAnswer files name asked (Ok text) = IsReport files name asked text
+IsFolderAnswer files name asked (Err (LibraryRefused fault)) = IsLibraryRefusal files fault
+IsFolderAnswer files name asked (Err (QueryRefused fault)) = IsQueryRefusal files name asked fault
+IsFolderAnswer files name asked (Err FolderFault) = Unit {0}
+IsFolderAnswer files name asked (Err Memory) = Unit {0}
+IsFolderAnswer files name asked (Err status) = ⊥
 
 -- A status that comes before anything is written.
 abbrev pub EndsEarly : Status → Type 0

@@ -6,7 +6,7 @@ ghost use Rattle.design_model.specs.Feasible.{AreMinima};
 ghost use Rattle.design_model.specs.Parts.{provided_ports, required_ports, is_catalogue};
 ghost use Rattle.design_model.specs.Typed.{rows_fit};
 ghost use Rattle.plain_form.specs.Fitting.{HasNumberPorts};
-ghost use Rattle.design_cli.specs.Outcome.{AnswersQuery, Replies};
+ghost use Rattle.design_cli.specs.FileAnswers.{IsQueryAnswer, IsFilesAnswer};
 ghost use Rattle.design_cli.specs.Posets.{no_posets};
 ghost use Rattle.design_cli.specs.Report.{report};
 
@@ -31,7 +31,7 @@ fn minimal_report(alloc: Global, catalogue: &Design, f: &Row) -> Result<Text, No
         posets: List::of(Vec::new(alloc)),
     };
     let rows = minimal_rows(alloc, &types, catalogue, f)?;
-    report_text(alloc, catalogue.requires_(), rows.items())
+    report_text(alloc, catalogue.required_ports(), rows.items())
 }
 
 /// The report of a catalogue for a query.
@@ -39,9 +39,9 @@ fn query_report(alloc: Global, catalogue: &Design, query: &str) -> Result<Text, 
     requires catalogue { IsTrue (is_catalogue catalogue.now) }
     requires rows_fit { IsTrue (rows_fit no_posets catalogue.now) }
     requires ports { HasNumberPorts catalogue.now }
-    ensures { AnswersQuery catalogue.now query.now result }
+    ensures { IsQueryAnswer catalogue.now query.now result }
 {
-    let f = match read_query(alloc, catalogue.provides(), query) {
+    let f = match read_query(alloc, catalogue.provided_ports(), query) {
         Ok(f) => f,
         Err(ReadFault::NotPlain) => return Err(Status::QueryRefused(QueryFault::NotYet)),
         Err(ReadFault::Memory) => return Err(Status::Memory),
@@ -54,7 +54,7 @@ fn query_report(alloc: Global, catalogue: &Design, query: &str) -> Result<Text, 
 
 /// The report of the design of this name for a query, from the files of a library.
 pub fn answer(alloc: Global, files: &[FileRead], name: &str, query: &str) -> Result<Text, Status>
-    ensures { Replies files.now name.now query.now result }
+    ensures { IsFilesAnswer files.now name.now query.now result }
 {
     let designs = match designs_of(alloc, files) {
         Ok(designs) => designs,

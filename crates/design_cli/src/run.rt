@@ -6,11 +6,10 @@ ghost use Rattle.design_world.specs.Fault.{NeverFall, Rose};
 ghost use Rattle.design_world.specs.Files.{SameFiles};
 ghost use Rattle.design_model.specs.declared.design.Design.{Design};
 ghost use Rattle.design_model.specs.Feasible.{AreMinima};
-ghost use Rattle.design_model.specs.Parts.{provided_ports, required_ports};
-ghost use Rattle.design_cli.specs.Library.{AreAccepted, IsDesign, IsFirstRefused};
-ghost use Rattle.design_cli.specs.Outcome.{BeforeWriting, HasNoDesign, HasNoQuery, EndsEarly, NoFault, Says, Solves, Writing};
+ghost use Rattle.design_model.specs.Parts.{required_ports};
+ghost use Rattle.design_cli.specs.Library.{IsFirstRefused};
+ghost use Rattle.design_cli.specs.Outcome.{Asks, BeforeWriting, ForAsked, HasNoDesign, HasNoQuery, EndsEarly, NoFault, IsOutcome, IsFolderAnswer, Writing};
 ghost use Rattle.design_cli.specs.Posets.{no_posets};
-ghost use Rattle.plain_form.specs.Plain.{IsQuery};
 ghost use Rattle.design_cli.specs.Report.{report};
 ghost use Rattle.design_cli.specs.Words.{asked_by};
 
@@ -36,7 +35,7 @@ fn solve<F: Folder>(
     ensures reliable { IsTrue (F.is_reliable folder.old) →
         ((place : List ℕ) → F.faults folder.new place ≡ F.faults folder.old place) × (result ≢ Err Status.FolderFault) }
     ensures early { IfErr result EndsEarly }
-    ensures solves { ForSome (F.files folder.old place.now) (λ files. Solves files name.now query.now result) }
+    ensures solves { ForSome (F.files folder.old place.now) (λ files. IsFolderAnswer files name.now query.now result) }
 {
     let files = match read_folder(alloc, folder, place) {
         Ok(files) => files,
@@ -73,31 +72,31 @@ pub fn run<F: Folder, S: Source, K: Sink>(
 ) -> Status
     // Where the library is accepted, has the design and the query is one of it, and no device failed, exactly the
     // minimal rows are written, unless memory was wanting.
-    ensures headline { ForSome (asked_by (map (λ word. word.now) words.now)) (λ asked. ForSome (F.files folder.old asked.place) (λ files.
-        (catalogue : Design) (f : List Value) → AreAccepted files → IsDesign files asked.name catalogue → IsQuery asked.query (provided_ports catalogue) f
+    ensures headline { ForAsked (map (λ word. word.now) words.now) (F.files folder.old) (λ asked files.
+        (catalogue : Design) (f : List Value) → Asks asked files catalogue f
         → (Rose (F.faults folder.old asked.place) (F.faults folder.new asked.place) → ⊥) → (Rose (K.faults out.old) (K.faults out.new) → ⊥) → result ≢ Status.Memory
-        → (result ≡ Status.Done) × (rows : List (List Value)) × AreMinima no_posets catalogue f rows × (K.written out.new ≡ followed (K.written out.old) (report (required_ports catalogue) rows)))) }
+        → (result ≡ Status.Done) × (rows : List (List Value)) × AreMinima no_posets catalogue f rows × (K.written out.new ≡ followed (K.written out.old) (report (required_ports catalogue) rows))) }
 
     // With reliable devices an accepted library and query are answered, unless memory was wanting.
-    ensures complete { IsTrue (F.is_reliable folder.old) → IsTrue (K.is_reliable out.old) → ForSome (asked_by (map (λ word. word.now) words.now)) (λ asked. ForSome (F.files folder.old asked.place) (λ files.
-        (catalogue : Design) (f : List Value) → AreAccepted files → IsDesign files asked.name catalogue → IsQuery asked.query (provided_ports catalogue) f
-        → (result ≡ Status.Done) ⊎ (result ≡ Status.Memory))) }
+    ensures complete { IsTrue (F.is_reliable folder.old) → IsTrue (K.is_reliable out.old) → ForAsked (map (λ word. word.now) words.now) (F.files folder.old) (λ asked files.
+        (catalogue : Design) (f : List Value) → Asks asked files catalogue f
+        → (result ≡ Status.Done) ⊎ (result ≡ Status.Memory)) }
 
     // What each status says of the files, the name and the query, and of the bytes that were written.
-    ensures says { ForSome (asked_by (map (λ word. word.now) words.now)) (λ asked. ForSome (F.files folder.old asked.place) (λ files.
-        Says files asked.name asked.query (K.written out.old) (K.written out.new) result)) }
+    ensures says { ForAsked (map (λ word. word.now) words.now) (F.files folder.old) (λ asked files.
+        IsOutcome files asked.name asked.query (K.written out.old) (K.written out.new) result) }
 
     // When each refusal comes.
     ensures usage { (result ≡ Status.Usage) ↔ (asked_by (map (λ word. word.now) words.now) ≡ None) }
-    ensures library_refused { ForSome (asked_by (map (λ word. word.now) words.now)) (λ asked. ForSome (F.files folder.old asked.place) (λ files.
+    ensures library_refused { ForAsked (map (λ word. word.now) words.now) (F.files folder.old) (λ asked files.
         (file : List ℕ) → IsFirstRefused files file → result ≢ Status.FolderFault → result ≢ Status.Memory
-        → result ≡ Status.LibraryRefused (LibraryFault.NotYet file))) }
-    ensures no_design { ForSome (asked_by (map (λ word. word.now) words.now)) (λ asked. ForSome (F.files folder.old asked.place) (λ files.
+        → result ≡ Status.LibraryRefused (LibraryFault.NotYet file)) }
+    ensures no_design { ForAsked (map (λ word. word.now) words.now) (F.files folder.old) (λ asked files.
         HasNoDesign files asked.name → result ≢ Status.FolderFault → result ≢ Status.Memory
-        → result ≡ Status.QueryRefused QueryFault.NoDesign)) }
-    ensures no_query { ForSome (asked_by (map (λ word. word.now) words.now)) (λ asked. ForSome (F.files folder.old asked.place) (λ files.
+        → result ≡ Status.QueryRefused QueryFault.NoDesign) }
+    ensures no_query { ForAsked (map (λ word. word.now) words.now) (F.files folder.old) (λ asked files.
         HasNoQuery files asked.name asked.query → result ≢ Status.FolderFault → result ≢ Status.Memory
-        → result ≡ Status.QueryRefused QueryFault.NotYet)) }
+        → result ≡ Status.QueryRefused QueryFault.NotYet) }
 
     // When each fault comes.
     ensures folder_fault { result ≡ Status.FolderFault → ForSome (asked_by (map (λ word. word.now) words.now)) (λ asked.

@@ -8,7 +8,7 @@ use Rattle.design_lexer.specs.declared.token.Token.{Token}
 use Rattle.design_lexer.specs.Pieces.{IsPiece, is_too_long}
 use Rattle.design_lexer.specs.Cut.{IsLongest, IsCut, token_of, tokens_of, BeginsBadly, IsFirstBad}
 use Rattle.design_lexer.specs.Scan.{start_of, longest_piece, fit_from, fit_piece}
-use Rattle.design_lexer.specs.Starts.{starts, not_empty}
+use Rattle.design_lexer.specs.StartLaws.{starts, not_empty}
 use Rattle.design_lexer.proofs.Longest.{piece_longest}
 
 -- ---- the next piece

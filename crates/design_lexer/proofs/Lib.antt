@@ -1,2 +1,4 @@
+pub mod CutLemmas
 pub mod Cutting
 pub mod Longest
+pub mod StartLemmas

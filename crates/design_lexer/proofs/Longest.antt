@@ -3,7 +3,7 @@ use Rattle.std.proofs.Common.{◌≡◌, ◌∙◌, ◌≤◌, ◌<◌, ◌+◌,
 use Rattle.std.specs.List.{list_all}
 use Rattle.std.proofs.lemmas.Bool.Decides.{nat_tests}
 use Rattle.std.proofs.lemmas.List.{length-drop}
-use Rattle.order_core.specs.Members.{first, second, both, decide, true_not}
+use Rattle.order_core.specs.MemberLaws.{first, second, both, decide, true_not}
 use Rattle.design_lexer.specs.declared.token.TokenKind.TheVariants as token
 use Rattle.design_lexer.specs.declared.piece.PieceKind.{PieceKind}
 use Rattle.design_lexer.specs.declared.piece.PieceKind.TheVariants as kind
@@ -12,7 +12,9 @@ use Rattle.design_lexer.specs.declared.piece.Start.TheVariants as start
 use Rattle.design_lexer.specs.Pieces.{is_space, is_letter, is_digit, is_sign, is_pair, is_run, is_comment, is_named, is_reserved, IsDecimal, is_symbol, IsPiece}
 use Rattle.design_lexer.specs.Cut.{IsLongest}
 use Rattle.design_lexer.specs.Scan.{start_of, goes_on, run, word_kind, point_and, fraction, number_kind, number, symbol_len, longest_piece}
-use Rattle.design_lexer.specs.Starts.{start_for, some_is, same_byte, all_of_run, or_left, named_all, starts, reserved_named, not_empty, start_tells}
+use Rattle.design_lexer.specs.Starts.{start_for}
+use Rattle.design_lexer.specs.StartLaws.{some_is, same_byte, all_of_run, or_left, named_all, starts, reserved_named, not_empty}
+use Rattle.design_lexer.proofs.StartLemmas.{start_tells}
 
 -- ---- runs
 

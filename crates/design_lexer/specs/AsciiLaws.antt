@@ -7,11 +7,11 @@ use Rattle.std.proofs.lemmas.Bool.Decides.{nat_tests}
 use Rattle.std.proofs.lemmas.List.Elements.{All-nil, All-cons}
 use Rattle.std.proofs.lemmas.List.Folds.{list_all-append}
 use Rattle.std.proofs.lemmas.Str.Ascii.{IsAscii-from_all}
-use Rattle.order_core.specs.Members.{first, second, both, any_elim, all_elim}
+use Rattle.order_core.specs.MemberLaws.{first, second, both, any_elim, all_elim}
 use Rattle.design_lexer.specs.declared.token.TokenKind.{TokenKind}
 use Rattle.design_lexer.specs.declared.token.TokenKind.TheVariants as token
 use Rattle.design_lexer.specs.Pieces.{is_letter, is_digit, is_sign, is_pair, is_named, is_symbol, HasForm}
-use Rattle.design_lexer.specs.Starts.{same_byte, all_of_run, named_all, reserved_named}
+use Rattle.design_lexer.specs.StartLaws.{same_byte, all_of_run, named_all, reserved_named}
 
 abbrev is_low : ℕ → Bool
 is_low b = nat_lt b 128

@@ -1,23 +1,22 @@
 -- A text is cut into pieces in one way only.
 use Rattle.std.proofs.Common.{◌≡◌, ◌∙◌, ◌≤◌, refl, sym, ap, subst, arith, ℕ, zero, suc, ◌+◌, Bool, true, false, cond, ◌&&◌, IsTrue, List, [], ◌∷◌, ◌++◌, length, take, drop, inl, inr}
-use Rattle.std.specs.List.{list_all}
-use Rattle.std.proofs.lemmas.List.{drop-drop, length-drop}
 use Rattle.std.proofs.lemmas.List.Folds.{list_all-append}
-use Rattle.order_core.specs.Members.{second, not_true}
-use Rattle.order_core.specs.Pointwise.{Each}
+use Rattle.std.proofs.lemmas.List.{drop-drop, length-drop}
+use Rattle.std.specs.List.{list_all}
+use Rattle.design_lexer.specs.Cut.{IsLongest, IsCut, token_of, tokens_of, AreTokens, StandsIn, BeginsBadly, IsFirstBad}
+use Rattle.design_lexer.specs.Pieces.{is_digit, is_named, is_reserved, IsPiece, is_long, is_too_long}
+use Rattle.design_lexer.specs.Scan.{word_kind}
+use Rattle.design_lexer.specs.StartLaws.{some_is, all_of_run, starts, not_empty}
+use Rattle.design_lexer.specs.Starts.{start_for}
+use Rattle.design_lexer.specs.declared.piece.Piece.{Piece}
+use Rattle.design_lexer.specs.declared.piece.PieceKind.TheVariants as kind
+use Rattle.design_lexer.specs.declared.piece.PieceKind.{PieceKind}
+use Rattle.design_lexer.specs.declared.piece.Start.TheVariants as start
+use Rattle.design_lexer.specs.declared.piece.Start.{Start}
 use Rattle.design_lexer.specs.declared.token.Token.{Token}
 use Rattle.design_lexer.specs.declared.token.TokenKind.TheVariants as token
-use Rattle.design_lexer.specs.declared.piece.PieceKind.{PieceKind}
-use Rattle.design_lexer.specs.declared.piece.PieceKind.TheVariants as kind
-use Rattle.design_lexer.specs.declared.piece.Piece.{Piece}
-use Rattle.design_lexer.specs.declared.piece.Start.{Start}
-use Rattle.design_lexer.specs.declared.piece.Start.TheVariants as start
-use Rattle.design_lexer.specs.Pieces.{is_digit, is_named, is_reserved, IsPiece, is_long, is_too_long}
-use Rattle.design_lexer.specs.Cut.{IsLongest, IsCut, token_of, tokens_of, AreTokens, StandsIn, BeginsBadly, IsFirstBad}
-use Rattle.design_lexer.specs.Scan.{word_kind}
-use Rattle.design_lexer.specs.Starts.{start_for, some_is, all_of_run, starts, not_empty}
-
--- ---- the kind of a piece
+use Rattle.order_core.specs.MemberLaws.{second, not_true}
+use Rattle.order_core.specs.Pointwise.{Each}
 
 -- the kind of the piece that these bytes are, where they begin so
 abbrev pub kind_at : Start → List ℕ → PieceKind
@@ -96,12 +95,6 @@ cuts_same text (p ∷ ps) (q ∷ qs) r s c d n m =
 pub tokens_same : (text : List ℕ) (xs ys : List Token) → AreTokens text xs → AreTokens text ys → xs ≡ ys
 tokens_same text xs ys h k =
     h.2 ∙ ap (tokens_of 0) (cuts_same text h.0 k.0 [] [] h.1 k.1 no_next_end no_next_end).pieces ∙ sym k.2
-
-pub first_bad_same : (text : List ℕ) (a b : ℕ) → IsFirstBad text a → IsFirstBad text b → a ≡ b
-first_bad_same text a b h k =
-    let same = (cuts_same text h.pieces k.pieces (drop a text) (drop b text) h.cut k.cut (no_next_bad _ h.bad) (no_next_bad _ k.bad)).rest in
-    let lengths : length (drop a text) ≡ length (drop b text) = ap length same in
-    omega (arith, lengths, length-drop a text, length-drop b text, h.before_end, k.before_end)
 
 pub never_both : (text : List ℕ) (xs : List Token) (at : ℕ) → AreTokens text xs → IsFirstBad text at → ⊥
 never_both text xs at h k =

@@ -1,1 +1,3 @@
+pub mod AboveLaws
+pub mod NumberLemmas
 pub mod TupleLaws

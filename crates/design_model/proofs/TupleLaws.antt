@@ -1,7 +1,7 @@
 -- Whether values are at least those of expressions, one after the other.
 use Rattle.std.proofs.Common.{◌≡◌, ◌≢◌, ◌∙◌, suc, Bool, true, false, ◌&&◌, List, [], ◌∷◌, map, length, refl, sym, ap}
 use Rattle.std.specs.Prelude.{Option, Some, None}
-use Rattle.order_core.specs.Partners.{unequal_upper}
+use Rattle.order_core.specs.PartnerLaws.{unequal_upper}
 use Rattle.value_type.specs.declared.kind.Kind.{Kind}
 use Rattle.value_type.specs.declared.poset.Types.{Types}
 use Rattle.value_type.specs.declared.value.Value.{Value}

@@ -1,35 +1,23 @@
 -- When an expression is of a type.
-use Rattle.std.specs.Prelude.{ℕ, Bool, true, false, ◌&&◌, ◌==◌, List, Option, Some, None}
+use Rattle.std.specs.Prelude.{ℕ, Bool, true, false, ◌&&◌, List, Option, Some, None}
 use Rattle.order_core.specs.Tuple.{are_values}
 use Rattle.value_type.specs.declared.kind.Kind.{Kind, out-Kind}
-use Rattle.value_type.specs.declared.kind.Kind.TheFolds.{fold-Kind}
 use Rattle.value_type.specs.declared.kind.Kind.TheOpen.{Kind-F}
 use Rattle.value_type.specs.declared.poset.Types.{Types}
 use Rattle.value_type.specs.Fits.{fits}
+use Rattle.value_type.specs.SameForm.{same_form}
 use Rattle.design_model.specs.declared.expr.Expr.{Expr, fold-Expr}
 use Rattle.design_model.specs.declared.expr.Expr.TheOpen.{Expr-F}
-
--- one level of a type, with the tests of its parts in their place
-abbrev pub alike_step : Kind-F (Kind → Bool) → Kind-F Kind → Bool
-alike_step (Kind-F.Num a) (Kind-F.Num b) = true
-alike_step (Kind-F.Fin a) (Kind-F.Fin b) = a == b
-alike_step (Kind-F.Prod tests) (Kind-F.Prod kinds) = are_values tests kinds
-alike_step (Kind-F.Up a) (Kind-F.Up b) = a == b
-alike_step _ _ = false
-
--- The types are the same, if all number types are taken as one.
-abbrev pub are_alike : Kind → Kind → Bool
-are_alike = fold-Kind (Kind → Bool) (λ a b. alike_step a (out-Kind b))
 
 -- The types of the ports that an expression may read, by their numbers: own provided ports, and parts' required ports.
 pub record PortTypes : Type 0 where
   pub own : ℕ → Option Kind
   pub inner : ℕ → ℕ → Option Kind
 
--- The port is there, and its type is alike.
-abbrev pub is_alike_to : Option Kind → Kind → Bool
-is_alike_to (Some a) b = are_alike a b
-is_alike_to None b = false
+-- The port is there, and its type has the form of this one.
+abbrev pub has_form : Option Kind → Kind → Bool
+has_form (Some a) b = same_form a b
+has_form None b = false
 
 abbrev pub is_number_at : Kind-F Kind → Bool
 is_number_at (Kind-F.Num dim) = true
@@ -46,8 +34,8 @@ parts_are tests _ = false
 
 -- one level of an expression, with the tests of its parts in their place
 abbrev pub kind_step : Types → PortTypes → Expr-F (Kind → Bool) → Kind → Bool
-kind_step t ports (Expr-F.Own j) k = is_alike_to (ports.own j) k
-kind_step t ports (Expr-F.Inner i j) k = is_alike_to (ports.inner i j) k
+kind_step t ports (Expr-F.Own j) k = has_form (ports.own j) k
+kind_step t ports (Expr-F.Inner i j) k = has_form (ports.inner i j) k
 kind_step t ports (Expr-F.Constant v) k = fits t k v
 kind_step t ports (Expr-F.Scale by a) k = is_number_kind k && a k
 kind_step t ports (Expr-F.Sum a b) k = is_number_kind k && (a k && b k)

@@ -12,7 +12,7 @@ use Rattle.value_type.specs.Fits.{fits}
 use Rattle.value_type.specs.Scale.{scaled}
 use Rattle.design_model.specs.declared.expr.Expr.{Expr, fold_out-Expr}
 use Rattle.design_model.specs.declared.expr.Expr.TheVariants.{Own, Inner, Constant, Scale, Sum, Product, Greatest, Lesser, Tuple, outs-Own, outs-Inner, outs-Constant, outs-Scale, outs-Sum, outs-Product, outs-Greatest, outs-Lesser, outs-Tuple}
-use Rattle.design_model.specs.ExprKinds.{PortTypes, is_of_kind, is_alike_to, is_number_kind, parts_are}
+use Rattle.design_model.specs.ExprKinds.{PortTypes, is_of_kind, has_form, is_number_kind, parts_are}
 use Rattle.design_model.specs.Reading.{reads_some}
 use Rattle.design_model.specs.ValueOf.{Reads, value_of, number_in, of_one, of_two, together, tuple_of}
 
@@ -74,10 +74,10 @@ reads-Lesser test a b = rw (fold_out-Expr, outs-Lesser) refl
 pub reads-Tuple : (test : ℕ → ℕ → Bool) (parts : List Expr) → reads_some test (Tuple parts) ≡ list_any (reads_some test) parts
 reads-Tuple test parts = rw (fold_out-Expr, outs-Tuple) (any_map test parts)
 
-pub kind-Own : (t : Types) (ports : PortTypes) (j : ℕ) (k : Kind) → is_of_kind t ports (Own j) k ≡ is_alike_to (ports.own j) k
+pub kind-Own : (t : Types) (ports : PortTypes) (j : ℕ) (k : Kind) → is_of_kind t ports (Own j) k ≡ has_form (ports.own j) k
 kind-Own t ports j k = rw (fold_out-Expr, outs-Own) refl
 
-pub kind-Inner : (t : Types) (ports : PortTypes) (i j : ℕ) (k : Kind) → is_of_kind t ports (Inner i j) k ≡ is_alike_to (ports.inner i j) k
+pub kind-Inner : (t : Types) (ports : PortTypes) (i j : ℕ) (k : Kind) → is_of_kind t ports (Inner i j) k ≡ has_form (ports.inner i j) k
 kind-Inner t ports i j k = rw (fold_out-Expr, outs-Inner) refl
 
 pub kind-Constant : (t : Types) (ports : PortTypes) (v : Value) (k : Kind) → is_of_kind t ports (Constant v) k ≡ fits t k v

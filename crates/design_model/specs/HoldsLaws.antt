@@ -1,7 +1,8 @@
 -- When each kind of design holds.
 use Rattle.std.specs.Prelude.{◌≡◌, List, map}
 use Rattle.std.proofs.Common.{refl, sym, ap, ◌∙◌}
-use Rattle.order_core.specs.Pointwise.{Pointwise, Pointwise-map, at-map}
+use Rattle.order_core.specs.Pointwise.{Pointwise}
+use Rattle.order_core.specs.PointwiseLaws.{Pointwise-map, at-map}
 use Rattle.value_type.specs.declared.port.Port.{Port}
 use Rattle.value_type.specs.declared.poset.Types.{Types}
 use Rattle.design_model.specs.declared.design.CatRow.{CatRow}

@@ -1,14 +1,17 @@
+-- Read Wiring, ValueOf, Holds and Feasible first: what a design allows. Then Typed; Evaluation, Cuts, Step, Steady
+-- and Rounds: how a net is solved in rounds; Met, Shown and Heights: what rounds show. Modules whose names end in
+-- Laws hold lemmas.
 pub mod Above
-pub mod AboveLaws
 pub mod Cuts
 pub mod Evaluation
 pub mod ExprKinds
 pub mod ExprLaws
+pub mod ExprRisesLaws
 pub mod Feasible
 pub mod Heights
 pub mod HeightsLaws
 pub mod Holds
-pub mod HoldsCases
+pub mod HoldsCaseLaws
 pub mod HoldsLaws
 pub mod Met
 pub mod NumberLaws
@@ -21,8 +24,12 @@ pub mod Rows
 pub mod Shown
 pub mod ShownLaws
 pub mod Steady
+pub mod SteadyLaws
 pub mod Step
+pub mod StepLaws
 pub mod Typed
 pub mod TypedLaws
 pub mod ValueOf
+pub mod ValuesInOrder
+pub mod ValuesInOrderLaws
 pub mod Wiring

@@ -5,7 +5,8 @@ use Rattle.design_model.specs.declared.design.Design.{Design, out-Design}
 use Rattle.design_model.specs.declared.design.Design.TheOpen.{Design-F}
 use Rattle.design_model.specs.declared.design.Part.{Part}
 use Rattle.design_model.specs.Rows.{Row}
-use Rattle.design_model.specs.Steady.{NetOf, net_of, IsSteadyIn, StepsIn, EndsLeastIn, Asks}
+use Rattle.design_model.specs.Steady.{NetOf, net_of}
+use Rattle.design_model.specs.SteadyLaws.{IsSteadyIn, StepsIn, EndsLeastIn, Asks}
 
 -- The net is steady at f, and a step from a least end to itself asks the part for the row.
 pub record AsksPart (t : Types) (n : ℕ) (net : NetOf) (f : Row) (i : ℕ) (row : Row) : Type 0 where

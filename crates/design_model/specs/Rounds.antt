@@ -12,7 +12,8 @@ use Rattle.design_model.specs.declared.design.Part.{Part}
 use Rattle.design_model.specs.Feasible.{resources_leq}
 use Rattle.design_model.specs.Holds.{Fit, RowHolds}
 use Rattle.design_model.specs.Rows.{Row}
-use Rattle.design_model.specs.Step.{is_state, state_leq, own_values, Steps}
+use Rattle.design_model.specs.Step.{is_state, state_leq, own_values}
+use Rattle.design_model.specs.StepLaws.{Steps}
 use Rattle.design_model.specs.Wiring.{Wiring, wiring_of, Carried}
 
 -- The state ends a chain of k steps of the net.

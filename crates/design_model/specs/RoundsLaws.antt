@@ -1,7 +1,7 @@
 -- When each kind of design is feasible in a number of rounds.
 use Rattle.std.specs.Prelude.{◌≡◌, ℕ, List}
 use Rattle.std.proofs.Common.{refl, sym, ap, ◌∙◌}
-use Rattle.order_core.specs.Pointwise.{Pointwise-map, at-map}
+use Rattle.order_core.specs.PointwiseLaws.{Pointwise-map, at-map}
 use Rattle.value_type.specs.declared.port.Port.{Port}
 use Rattle.value_type.specs.declared.poset.Types.{Types}
 use Rattle.design_model.specs.declared.design.CatRow.{CatRow}

@@ -7,7 +7,8 @@ use Rattle.design_model.specs.declared.design.Part.{Part}
 use Rattle.design_model.specs.Cuts.{cut_signals}
 use Rattle.design_model.specs.Rounds.{IsMinimumIn}
 use Rattle.design_model.specs.Rows.{Row}
-use Rattle.design_model.specs.Steady.{NetOf, net_of, wiring, StepsIn, EndsLeastIn, Asks}
+use Rattle.design_model.specs.Steady.{NetOf, net_of, wiring}
+use Rattle.design_model.specs.SteadyLaws.{StepsIn, EndsLeastIn, Asks}
 use Rattle.design_model.specs.Step.{own_values}
 
 -- The state is also a least end of chains of n - 1 steps.

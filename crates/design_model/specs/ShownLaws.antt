@@ -1,7 +1,7 @@
 -- What is met through, and what shows a minimum of, each kind of design.
 use Rattle.std.specs.Prelude.{◌≡◌, ℕ, IsSomeAnd, List, [], ◌∷◌, map, slice_get}
 use Rattle.std.proofs.Common.{refl, sym, ap, ◌∙◌, map-id}
-use Rattle.order_core.specs.Pointwise.{at-map}
+use Rattle.order_core.specs.PointwiseLaws.{at-map}
 use Rattle.value_type.specs.declared.port.Port.{Port}
 use Rattle.value_type.specs.declared.poset.Types.{Types}
 use Rattle.design_model.specs.declared.design.CatRow.{CatRow}

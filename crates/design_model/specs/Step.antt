@@ -1,16 +1,15 @@
 -- The states of a net, and the steps between them.
 use Rattle.std.specs.Prelude.{ℕ, Bool, cond, ◌&&◌, ◌==◌, IsTrue, IsSomeAnd, List, [], ◌∷◌, ◌++◌, length, map, take, drop, slice_get, Option, Some, None}
-use Rattle.order_core.specs.Pointwise.{Each, Pointwise}
-use Rattle.value_type.specs.declared.kind.Kind.{Kind}
-use Rattle.value_type.specs.declared.poset.Types.{Types}
-use Rattle.value_type.specs.declared.value.Value.{Value}
-use Rattle.value_type.specs.Fits.{row_fits}
-use Rattle.value_type.specs.Leq.{leq, row_leq}
-use Rattle.design_model.specs.declared.expr.Greater.{Greater}
 use Rattle.design_model.specs.Cuts.{Signal, cut_signals, is_cut_read}
 use Rattle.design_model.specs.Rows.{Row}
 use Rattle.design_model.specs.ValueOf.{Reads, port_at}
-use Rattle.design_model.specs.Wiring.{Wiring, Carried, required_rows, Satisfied}
+use Rattle.design_model.specs.Wiring.{Wiring, Carried, required_rows}
+use Rattle.design_model.specs.declared.expr.Greater.{Greater}
+use Rattle.value_type.specs.Fits.{row_fits}
+use Rattle.value_type.specs.Leq.{leq, row_leq}
+use Rattle.value_type.specs.declared.kind.Kind.{Kind}
+use Rattle.value_type.specs.declared.poset.Types.{Types}
+use Rattle.value_type.specs.declared.value.Value.{Value}
 
 abbrev pub signal_kinds : Wiring → List Kind
 signal_kinds net = map (λ s. s.kind) (cut_signals net)
@@ -47,17 +46,3 @@ step_reads net f before carried into = record {
 -- What the part carries at the signal's port is there, and is at most this value.
 abbrev pub IsCovered : Types → List Carried → Signal → Value → Type 0
 IsCovered t carried s v = IsSomeAnd (port_at (required_rows carried) s.part s.port) (λ x. IsTrue (leq t s.kind x v))
-
--- In a net with this wiring, where `MayCarry` says which rows its parts may carry together, at the functionality f:
-module _ (t : Types) (net : Wiring) (MayCarry : List Carried → Type 0) (f : Row) where
-  -- The parts carry these rows in a step from the state before to the state after: each part may, each constraint is satisfied, and each cut signal carries at most its value in the state after.
-  pub record StepsBy (before after : Row) (carried : List Carried) : Type 0 where
-    pub before_is : IsTrue (is_state t net before)
-    pub after_is : IsTrue (is_state t net after)
-    pub may_carry : MayCarry carried
-    pub constraints : Each (λ c. Satisfied t net (own_values net after) carried (step_reads net f before carried c.greater) c) net.constraints
-    pub covered : Pointwise (IsCovered t carried) (cut_signals net) (cut_values net after)
-
-  -- A step leads from the state before to the state after.
-  abbrev pub Steps : Row → Row → Type 0
-  Steps before after = (carried : List Carried) × StepsBy before after carried

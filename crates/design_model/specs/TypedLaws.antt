@@ -2,7 +2,8 @@
 use Rattle.std.specs.Prelude.{◌≡◌, List, map}
 use Rattle.std.proofs.Common.{refl, sym, ap, ◌∙◌}
 use Rattle.std.proofs.lemmas.List.{map-id}
-use Rattle.order_core.specs.Pointwise.{Each, Each-map}
+use Rattle.order_core.specs.Pointwise.{Each}
+use Rattle.order_core.specs.PointwiseLaws.{Each-map}
 use Rattle.value_type.specs.declared.port.Port.{Port}
 use Rattle.value_type.specs.declared.poset.Types.{Types}
 use Rattle.design_model.specs.declared.design.CatRow.{CatRow}
@@ -11,7 +12,8 @@ use Rattle.design_model.specs.declared.design.Design.TheOpen.{Design-F}
 use Rattle.design_model.specs.declared.design.Design.TheVariants.{Cat, Choice, Net, outs-Cat, outs-Choice, outs-Net}
 use Rattle.design_model.specs.declared.design.Part.{Part, out-Part, rec-Part, rec-roll-Part}
 use Rattle.design_model.specs.declared.expr.Constraint.{Constraint}
-use Rattle.design_model.specs.Typed.{IsTyped, IsTypedAt, IsTypedAtPart, IsTypedCat, IsTypedChoice, IsTypedNet}
+use Rattle.design_model.specs.Parts.{provided_at, required_at, provided_ports, required_ports}
+use Rattle.design_model.specs.Typed.{ArePorts, IsTyped, IsTypedAt, IsTypedAtPart, IsTypedCat, IsTypedChoice, IsTypedNet}
 
 abbrev At : Type 1
 At = Type 0
@@ -29,7 +31,7 @@ typed_of_part : (t : Types) (p : Part) → rec-Part At At (IsTypedAt t) IsTypedA
 unfolding IsTyped
 typed_of_part t p = rec-roll-Part At At (IsTypedAt t) IsTypedAtPart (λ X Y v v' k k' x. refl) (out-Part p)
 
-IsTyped-out : (t : Types) (d : Design) → IsTyped t d ≡ IsTypedAt t Design Part (λ d. d) (λ p. p) (IsTyped t) (λ p. IsTyped t p.design) (out-Design d)
+pub IsTyped-out : (t : Types) (d : Design) → IsTyped t d ≡ IsTypedAt t Design Part (λ d. d) (λ p. p) (IsTyped t) (λ p. IsTyped t p.design) (out-Design d)
 unfolding IsTyped
 IsTyped-out t d =
     ap (rec-Design At At (IsTypedAt t) IsTypedAtPart) (sym (roll-out-Design d))
@@ -52,3 +54,12 @@ IsTyped-Net t provides requires_ parts constraints = at-Net ∙ (λ i. IsTypedNe
   where
     at-Net : IsTyped t (Net provides requires_ parts constraints) ≡ IsTypedNet t provides requires_ (map (λ p. p) parts) constraints (Each (λ p. IsTyped t p.design) parts)
     at-Net = rw (IsTyped-out, outs-Net)
+
+-- The ports of a typed design are ports.
+pub typed_ports : (t : Types) (d : Design) → IsTyped t d → ArePorts t (provided_ports d) × ArePorts t (required_ports d)
+typed_ports t d h = at (out-Design d) (rw IsTyped-out at h)
+  where
+    at : (x : Design-F Design Part) → IsTypedAt t Design Part (λ d. d) (λ p. p) (IsTyped t) (λ p. IsTyped t p.design) x → ArePorts t (provided_at x) × ArePorts t (required_at x)
+    at (Design-F.Cat provides requires_ rows) k = (k.provided_ports, k.required_ports)
+    at (Design-F.Choice provides requires_ branches) k = (k.provided_ports, k.required_ports)
+    at (Design-F.Net provides requires_ parts constraints) k = (k.provided_ports, k.required_ports)

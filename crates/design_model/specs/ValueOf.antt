@@ -8,7 +8,7 @@ use Rattle.value_type.specs.declared.value.Value.{Value, out-Value}
 use Rattle.value_type.specs.declared.value.Value.TheOpen.{Value-F}
 use Rattle.value_type.specs.declared.value.Value.TheVariants.{Tup}
 use Rattle.value_type.specs.Fits.{Layer}
-use Rattle.value_type.specs.KindLaws.{number_value}
+use Rattle.value_type.specs.Forms.{number_value}
 use Rattle.value_type.specs.Scale.{scaled}
 use Rattle.design_model.specs.declared.expr.Expr.{Expr, fold-Expr}
 use Rattle.design_model.specs.declared.expr.Expr.TheOpen.{Expr-F}

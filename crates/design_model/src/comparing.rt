@@ -29,7 +29,7 @@ pub fn above(
 
 /// Whether `x` is at least the value of the expression, as values of this type.
 #[cycle(above_in)]
-#[tactic(auto, using(crate::specs::NumberLaws::of_one_number, crate::specs::NumberLaws::of_two_number))]
+#[tactic(auto, using(crate::proofs::NumberLemmas::of_one_number, crate::proofs::NumberLemmas::of_two_number))]
 pub fn above_in<R: Reading>(types: &Types, kind: &Kind, x: &Value, expr: &Expr, reading: &R) -> bool
     ensures { result ≡ is_above types.now kind.now x.now (value_of expr.now (R.reads reading.now)) }
 {

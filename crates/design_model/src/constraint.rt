@@ -71,7 +71,7 @@ fn greater_kind<'a>(at: &'a Assignment, greater: &Greater) -> Option<&'a Kind>
     match greater {
         Greater::Own(port) => kind_of(at.requires_.items(), *port),
         Greater::Inner(part, port) => match at.parts.get(*part as usize) {
-            Some(part) => kind_of(part.design.provides(), *port),
+            Some(part) => kind_of(part.design.provided_ports(), *port),
             None => None,
         },
     }

@@ -1,8 +1,10 @@
-ghost use Rattle.std.specs.Prelude.{◌≡◌, slice_get};
+ghost use Rattle.std.specs.Prelude.{◌≡◌, IfOk, slice_get};
 ghost use Rattle.std.specs.Option.{option_copied};
 
+use crate::copy::copy_design;
 use crate::expr::Constraint;
-use order_core::{List, Text};
+use order_core::{List, NoMemory, Text};
+use std::alloc::Global;
 use value_type::{Port, Row};
 
 /// A row of a catalogue: what one implementation provides and requires.
@@ -13,6 +15,19 @@ pub struct CatRow {
     pub provided: Row,
     /// One value for each required port.
     pub required: Row,
+}
+
+impl CatRow {
+    /// A row equal to this one.
+    pub fn copy(&self, alloc: Global) -> Result<CatRow, NoMemory>
+        ensures { IfOk result (λ made. made ≡ self.now) }
+    {
+        Ok(CatRow {
+            name: self.name.copy(alloc)?,
+            provided: self.provided.copy(alloc)?,
+            required: self.required.copy(alloc)?,
+        })
+    }
 }
 
 /// A branch of a choice, or a part of a net.
@@ -48,11 +63,23 @@ pub enum Design {
     },
 }
 
+impl Part {
+    /// A part equal to this one.
+    pub fn copy(&self, alloc: Global) -> Result<Part, NoMemory>
+        ensures { IfOk result (λ made. made ≡ self.now) }
+    {
+        Ok(Part {
+            name: self.name.copy(alloc)?,
+            design: self.design.copy(alloc)?,
+        })
+    }
+}
+
 impl Design {
     ghost use Rattle.design_model.specs.Parts.{provided_ports, required_ports, rows_of};
 
     /// The provided ports.
-    pub fn provides(&self) -> &[Port]
+    pub fn provided_ports(&self) -> &[Port]
         ensures { result.now ≡ provided_ports self.now }
     {
         match self {
@@ -63,7 +90,7 @@ impl Design {
     }
 
     /// The required ports.
-    pub fn requires_(&self) -> &[Port]
+    pub fn required_ports(&self) -> &[Port]
         ensures { result.now ≡ required_ports self.now }
     {
         match self {
@@ -71,6 +98,13 @@ impl Design {
             Design::Choice { requires_, .. } => requires_.items(),
             Design::Net { requires_, .. } => requires_.items(),
         }
+    }
+
+    /// A design equal to this one.
+    pub fn copy(&self, alloc: Global) -> Result<Design, NoMemory>
+        ensures { IfOk result (λ made. made ≡ self.now) }
+    {
+        copy_design(alloc, self)
     }
 
     /// The rows of a catalogue. Another design has none.

@@ -1,4 +1,8 @@
-use order_core::{Boxed, List};
+ghost use Rattle.std.specs.Prelude.{◌≡◌, IfOk};
+
+use crate::copy::copy_expr;
+use order_core::{Boxed, List, NoMemory};
+use std::alloc::Global;
 use unit_core::Fraction;
 use value_type::Value;
 
@@ -21,6 +25,15 @@ pub enum Expr {
     Tuple(List<Expr>),
 }
 
+impl Expr {
+    /// An expression equal to this one.
+    pub fn copy(&self, alloc: Global) -> Result<Expr, NoMemory>
+        ensures { IfOk result (λ made. made ≡ self.now) }
+    {
+        copy_expr(alloc, self)
+    }
+}
+
 /// The port on the greater side of a constraint.
 #[derive(Drop)]
 pub enum Greater {
@@ -35,4 +48,28 @@ pub enum Greater {
 pub struct Constraint {
     pub greater: Greater,
     pub lower: Expr,
+}
+
+impl Greater {
+    /// A port equal to this one.
+    pub fn copy(&self) -> Greater
+        ensures { result ≡ self.now }
+    {
+        match self {
+            Greater::Own(port) => Greater::Own(*port),
+            Greater::Inner(part, port) => Greater::Inner(*part, *port),
+        }
+    }
+}
+
+impl Constraint {
+    /// A constraint equal to this one.
+    pub fn copy(&self, alloc: Global) -> Result<Constraint, NoMemory>
+        ensures { IfOk result (λ made. made ≡ self.now) }
+    {
+        Ok(Constraint {
+            greater: self.greater.copy(),
+            lower: self.lower.copy(alloc)?,
+        })
+    }
 }

@@ -16,10 +16,10 @@ use value_type::{Port, Row, Types, ports_fit, ports_leq};
 pub fn holds(types: &Types, design: &Design, f: &Row, r: &Row, witness: &Witness) -> bool
     ensures { IsTrue result ↔ Holds types.now design.now f.now r.now witness.now }
 {
-    if !ports_fit(types, design.provides(), f.values()) {
+    if !ports_fit(types, design.provided_ports(), f.values()) {
         return false;
     }
-    if !ports_fit(types, design.requires_(), r.values()) {
+    if !ports_fit(types, design.required_ports(), r.values()) {
         return false;
     }
     match design {

@@ -1,14 +1,14 @@
-mod catalogues;
-mod comparing;
-mod nets;
-mod values;
-
-use crate::{CatRow, Constraint, Design, Expr, Greater, Part, PartWitness, Witness};
-use order_core::{Boxed, FiniteOrder, List, Text};
+use crate::reading::Rows;
+use crate::value::value_in;
+use crate::{
+    CatRow, Constraint, Design, Expr, Greater, Part, PartWitness, Witness, above, holds, value_of,
+};
+use order_core::{Boxed, List, NoMemory, Text};
 use std::alloc::{AllocError, Global};
+use std::cmp::Ordering;
 use std::test::Fail;
-use unit_core::Dim;
-use value_type::{Kind, Port, PortUnit, Poset, Row, Types, Value};
+use unit_core::{Dim, Fraction};
+use value_type::{Kind, Port, PortUnit, Row, Types, Value, print_order};
 
 /// The type of plain numbers.
 const NUMBERS: Kind = Kind::Num(Dim {
@@ -20,157 +20,330 @@ const NUMBERS: Kind = Kind::Num(Dim {
     bits: 0,
 });
 
-fn text(alloc: Global, text: &str) -> Result<Text, AllocError> {
-    Ok(Text::of(String::from_str(alloc, text)?))
-}
-
 fn no_types(alloc: Global) -> Types {
     Types {
         posets: List::of(Vec::new(alloc)),
     }
 }
 
-/// One poset: the elements 0 and 1, which aren't compared, and 2 above both.
-fn joined(alloc: Global) -> Result<Types, Fail> {
-    let elements = List::of(vec![in alloc;
-        text(alloc, "a")?,
-        text(alloc, "b")?,
-        text(alloc, "t")?,
-    ]?);
-    let order = FiniteOrder::close(alloc, 3, &[(0, 2), (1, 2)])?;
-    let name = text(alloc, "p")?;
-    Ok(Types {
-        posets: List::of(vec![in alloc;
-            Poset {
-                name,
-                elements,
-                order
-            },
-        ]?),
-    })
+fn text(alloc: Global, text: &str) -> Result<Text, AllocError> {
+    Ok(Text::of(String::from_str(alloc, text)?))
 }
 
-fn port(alloc: Global, kind: Kind) -> Result<Port, Fail> {
-    Ok(Port {
-        name: text(alloc, "port")?,
-        kind,
-        unit: PortUnit::Nat,
-    })
-}
-
-/// So many ports of plain numbers.
-fn ports(alloc: Global, count: u32) -> Result<List<Port>, Fail> {
-    let mut ports = Vec::new(alloc);
-    for _ in 0..count {
-        ports.push(port(alloc, NUMBERS)?)?;
+/// The row of one count.
+fn row(alloc: Global, count: u64) -> Result<Row, NoMemory> {
+    match vec![in alloc; Value::Num(count)] {
+        Ok(values) => Row::of(alloc, List::of(values)),
+        Err(_) => Err(NoMemory),
     }
-    Ok(List::of(ports))
 }
 
-/// How a value is written in these tests.
+/// A test fails where this is false.
+fn expect(holds: bool, what: &str) -> Result<(), Fail> {
+    if holds { Ok(()) } else { Err(Fail::new(what)) }
+}
+
+/// A form of an expression.
 #[derive(Clone, Copy)]
-enum Written {
-    Num(u64),
-    Top,
-    El(u32),
-}
-
-fn value(written: Written) -> Value {
-    match written {
-        Written::Num(count) => Value::Num(count),
-        Written::Top => Value::Top,
-        Written::El(element) => Value::El(element),
-    }
-}
-
-fn row(alloc: Global, written: &[Written]) -> Result<Row, Fail> {
-    let mut values = Vec::new(alloc);
-    for one in written {
-        values.push(value(*one))?;
-    }
-    Ok(Row::of(alloc, List::of(values))?)
-}
-
-/// A row of a catalogue, by what it provides and requires.
-type Written2<'a> = (&'a [Written], &'a [Written]);
-
-fn catalogue(
-    alloc: Global,
-    (provides, requires_): (List<Port>, List<Port>),
-    written: &[Written2],
-) -> Result<Design, Fail> {
-    let mut rows = Vec::new(alloc);
-    for (provided, required) in written {
-        rows.push(CatRow {
-            name: text(alloc, "row")?,
-            provided: row(alloc, *provided)?,
-            required: row(alloc, *required)?,
-        })?;
-    }
-    Ok(Design::Cat {
-        provides,
-        requires_,
-        rows: List::of(rows),
-    })
-}
-
-fn part(alloc: Global, design: Design) -> Result<Part, Fail> {
-    Ok(Part {
-        name: text(alloc, "part")?,
-        design,
-    })
-}
-
-/// A port that an expression reads.
-#[derive(Clone, Copy)]
-enum Read {
-    Own(u32),
-    Inner(u32, u32),
-}
-
-impl Read {
-    fn expr(self) -> Expr {
-        match self {
-            Read::Own(port) => Expr::Own(port),
-            Read::Inner(part, port) => Expr::Inner(part, port),
-        }
-    }
-}
-
-/// What makes one number of two.
-#[derive(Clone, Copy)]
-enum Op {
+enum Form {
+    Own,
+    Inner,
+    Constant,
+    Scale,
     Sum,
     Product,
     Greatest,
     Lesser,
 }
 
-fn two(alloc: Global, op: Op, a: Expr, b: Expr) -> Result<Expr, Fail> {
-    let a = Boxed::of(alloc, a)?;
-    let b = Boxed::of(alloc, b)?;
-    match op {
-        Op::Sum => Ok(Expr::Sum(a, b)),
-        Op::Product => Ok(Expr::Product(a, b)),
-        Op::Greatest => Ok(Expr::Greatest(a, b)),
-        Op::Lesser => Ok(Expr::Lesser(a, b)),
+/// The own port.
+fn own(alloc: Global) -> Result<Boxed<Expr>, NoMemory> {
+    Boxed::of(alloc, Expr::Own(0))
+}
+
+/// The port of the part.
+fn inner(alloc: Global) -> Result<Boxed<Expr>, NoMemory> {
+    Boxed::of(alloc, Expr::Inner(0, 0))
+}
+
+/// A third of the port of the part.
+fn third(alloc: Global) -> Result<Expr, NoMemory> {
+    match Fraction::new(1, 3) {
+        Ok(third) => Ok(Expr::Scale(third, inner(alloc)?)),
+        Err(_) => Err(NoMemory),
     }
 }
 
-fn at_least(greater: Greater, lower: Expr) -> Constraint {
-    Constraint { greater, lower }
+/// The expression of this form, of the own port and the one of the part.
+fn expr(alloc: Global, form: Form) -> Result<Expr, NoMemory> {
+    match form {
+        Form::Own => Ok(Expr::Own(0)),
+        Form::Inner => Ok(Expr::Inner(0, 0)),
+        Form::Constant => Ok(Expr::Constant(Value::Num(7))),
+        Form::Scale => third(alloc),
+        Form::Sum => Ok(Expr::Sum(own(alloc)?, inner(alloc)?)),
+        Form::Product => Ok(Expr::Product(own(alloc)?, inner(alloc)?)),
+        Form::Greatest => Ok(Expr::Greatest(own(alloc)?, inner(alloc)?)),
+        Form::Lesser => Ok(Expr::Lesser(own(alloc)?, inner(alloc)?)),
+    }
 }
 
-/// What a part carries, and how it is made.
-fn carries(
-    alloc: Global,
-    provided: &[Written],
-    required: &[Written],
-    inner: Witness,
-) -> Result<PartWitness, Fail> {
-    Ok(PartWitness {
-        provided: row(alloc, provided)?,
-        required: row(alloc, required)?,
-        inner,
+/// What the forms are worth where the own port carries 3 and that of the part 5.
+const WORTH: [(Form, u64); 8] = [
+    (Form::Own, 3),
+    (Form::Inner, 5),
+    (Form::Constant, 7),
+    (Form::Scale, 2),
+    (Form::Sum, 8),
+    (Form::Product, 15),
+    (Form::Greatest, 5),
+    (Form::Lesser, 3),
+];
+
+/// The tuple of the forms.
+fn all_forms(alloc: Global) -> Result<Expr, Fail> {
+    let mut parts = Vec::new(alloc);
+    for (form, _) in &WORTH {
+        parts.push(expr(alloc, *form)?)?;
+    }
+    Ok(Expr::Tuple(List::of(parts)))
+}
+
+/// What it is worth.
+fn all_worth(alloc: Global) -> Result<Value, Fail> {
+    let mut parts = Vec::new(alloc);
+    for (_, count) in &WORTH {
+        parts.push(Value::Num(*count))?;
+    }
+    Ok(Value::Tup(List::of(parts)))
+}
+
+/// Whether a copy of the expression has this value.
+fn is_worth(alloc: Global, expr: Result<Expr, NoMemory>, rows: &Rows, want: &Value) -> bool {
+    let Ok(expr) = expr else {
+        return false;
+    };
+    if !matches!(value_in(alloc, &expr, rows), Ok(Some(_))) {
+        return false;
+    }
+    match value_of(alloc, &expr, rows.own, rows.inner) {
+        Ok(value) => print_order(&value, want) == Ordering::Equal,
+        Err(_) => false,
+    }
+}
+
+#[test]
+fn expressions_are_copied_and_have_values(rt: HostRuntime) -> Result<(), Fail> {
+    let alloc = rt.alloc();
+    let own = row(alloc, 3)?;
+    let inner = List::of(vec![in alloc; row(alloc, 5)?]?);
+    let (expr, want) = (all_forms(alloc)?, all_worth(alloc)?);
+    let rows = Rows {
+        own: &own,
+        inner: &inner,
+    };
+    expect(
+        is_worth(alloc, expr.copy(alloc), &rows, &want),
+        "another value",
+    )
+}
+
+fn ports(alloc: Global) -> Result<List<Port>, AllocError> {
+    let port = Port {
+        name: text(alloc, "port")?,
+        kind: NUMBERS,
+        unit: PortUnit::Nat,
+    };
+    Ok(List::of(vec![in alloc; port]?))
+}
+
+/// A motor that lifts 145 and weighs 50.
+fn motor(alloc: Global) -> Result<CatRow, Fail> {
+    Ok(CatRow {
+        name: text(alloc, "motor")?,
+        provided: row(alloc, 145)?,
+        required: row(alloc, 50)?,
     })
+}
+
+/// The catalogue of the one motor.
+fn motors(alloc: Global) -> Result<Design, Fail> {
+    Ok(Design::Cat {
+        provides: ports(alloc)?,
+        requires_: ports(alloc)?,
+        rows: List::of(vec![in alloc; motor(alloc)?]?),
+    })
+}
+
+fn part(alloc: Global, design: Design) -> Result<Part, AllocError> {
+    Ok(Part {
+        name: text(alloc, "part")?,
+        design,
+    })
+}
+
+/// The motor lifts the payload and itself, and the whole weighs what it does.
+fn lifting(alloc: Global) -> Result<List<Constraint>, Fail> {
+    let load = Constraint {
+        greater: Greater::Inner(0, 0),
+        lower: expr(alloc, Form::Sum)?,
+    };
+    let mass = Constraint {
+        greater: Greater::Own(0),
+        lower: Expr::Inner(0, 0),
+    };
+    Ok(List::of(vec![in alloc; load, mass]?))
+}
+
+/// The net in which a motor lifts a payload and itself.
+fn lifter(alloc: Global) -> Result<Design, Fail> {
+    let motors = part(alloc, motors(alloc)?)?;
+    Ok(Design::Net {
+        provides: ports(alloc)?,
+        requires_: ports(alloc)?,
+        parts: List::of(vec![in alloc; motors]?),
+        constraints: lifting(alloc)?,
+    })
+}
+
+/// The choice of a lifter alone.
+fn choice(alloc: Global) -> Result<Design, Fail> {
+    let lifter = part(alloc, lifter(alloc)?)?;
+    Ok(Design::Choice {
+        provides: ports(alloc)?,
+        requires_: ports(alloc)?,
+        branches: List::of(vec![in alloc; lifter]?),
+    })
+}
+
+/// The motor, with all that it lifts.
+fn carried(alloc: Global) -> Result<List<PartWitness>, Fail> {
+    let motor = PartWitness {
+        provided: row(alloc, 145)?,
+        required: row(alloc, 50)?,
+        inner: Witness::Row(0),
+    };
+    Ok(List::of(vec![in alloc; motor]?))
+}
+
+/// What a design is asked for.
+#[derive(Drop)]
+struct Asked {
+    types: Types,
+    most: Row,
+    more: Row,
+    mass: Row,
+}
+
+/// Whether the design holds at `most` and the mass 50, and not at `more`.
+fn is_held(design: &Design, witness: &Witness, at: &Asked) -> bool {
+    holds(&at.types, design, &at.most, &at.mass, witness)
+        && !holds(&at.types, design, &at.more, &at.mass, witness)
+}
+
+fn is_held_part(found: Result<Part, NoMemory>, witness: &Witness, at: &Asked) -> bool {
+    match found {
+        Ok(part) => is_held(&part.design, witness, at),
+        Err(_) => false,
+    }
+}
+
+fn is_held_design(found: Result<Design, NoMemory>, witness: &Witness, at: &Asked) -> bool {
+    match found {
+        Ok(design) => is_held(&design, witness, at),
+        Err(_) => false,
+    }
+}
+
+/// Whether copies of the part and of its design do.
+fn is_held_copied(alloc: Global, part: &Part, witness: &Witness, at: &Asked) -> bool {
+    is_held_part(part.copy(alloc), witness, at)
+        && is_held_design(part.design.copy(alloc), witness, at)
+}
+
+fn ask(alloc: Global, most: u64, more: u64) -> Result<Asked, NoMemory> {
+    Ok(Asked {
+        types: no_types(alloc),
+        most: row(alloc, most)?,
+        more: row(alloc, more)?,
+        mass: row(alloc, 50)?,
+    })
+}
+
+#[test]
+fn a_catalogue_holds(rt: HostRuntime) -> Result<(), Fail> {
+    let part = part(rt.alloc(), motors(rt.alloc())?)?;
+    let at = ask(rt.alloc(), 145, 146)?;
+    let held = is_held_copied(rt.alloc(), &part, &Witness::Row(0), &at);
+    expect(held, "the motors")
+}
+
+#[test]
+fn a_net_holds(rt: HostRuntime) -> Result<(), Fail> {
+    let part = part(rt.alloc(), lifter(rt.alloc())?)?;
+    let at = ask(rt.alloc(), 95, 96)?;
+    let lifted = Witness::Inner(carried(rt.alloc())?);
+    expect(
+        is_held_copied(rt.alloc(), &part, &lifted, &at),
+        "the lifter",
+    )
+}
+
+/// The first branch, made by its motor.
+fn chosen(alloc: Global) -> Result<Witness, Fail> {
+    let lifted = Witness::Inner(carried(alloc)?);
+    Ok(Witness::Branch(0, Boxed::of(alloc, lifted)?))
+}
+
+#[test]
+fn a_choice_holds(rt: HostRuntime) -> Result<(), Fail> {
+    let part = part(rt.alloc(), choice(rt.alloc())?)?;
+    let at = ask(rt.alloc(), 95, 96)?;
+    let chosen = chosen(rt.alloc())?;
+    expect(
+        is_held_copied(rt.alloc(), &part, &chosen, &at),
+        "the choice",
+    )
+}
+
+/// Whether 145 is at least the expression, and 144 isn't.
+fn is_145(alloc: Global, expr: &Expr, own: &Row, parts: &List<PartWitness>) -> bool {
+    let types = no_types(alloc);
+    above(&types, &NUMBERS, &Value::Num(145), expr, own, parts)
+        && !above(&types, &NUMBERS, &Value::Num(144), expr, own, parts)
+}
+
+#[test]
+fn a_value_is_above_a_sum(rt: HostRuntime) -> Result<(), Fail> {
+    let alloc = rt.alloc();
+    let sum = expr(alloc, Form::Sum)?;
+    let own = row(alloc, 95)?;
+    expect(is_145(alloc, &sum, &own, &carried(alloc)?), "above")
+}
+
+/// Whether a copy of the row has its name.
+fn is_copied_row(alloc: Global, row: &CatRow) -> bool {
+    match row.copy(alloc) {
+        Ok(copy) => copy.name.as_str() == "motor",
+        Err(_) => false,
+    }
+}
+
+/// Whether a copy of the constraint reads the port of the part.
+fn is_copied_constraint(alloc: Global, constraint: &Constraint) -> bool {
+    match constraint.copy(alloc) {
+        Ok(copy) => matches!(&copy.lower, Expr::Inner(0, 0)),
+        Err(_) => false,
+    }
+}
+
+#[test]
+fn rows_and_constraints_are_copied(rt: HostRuntime) -> Result<(), Fail> {
+    let alloc = rt.alloc();
+    expect(is_copied_row(alloc, &motor(alloc)?), "a row")?;
+    let mass = Constraint {
+        greater: Greater::Own(0),
+        lower: Expr::Inner(0, 0),
+    };
+    expect(is_copied_constraint(alloc, &mass), "a constraint")
 }

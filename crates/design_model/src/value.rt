@@ -25,7 +25,7 @@ pub fn value_of(alloc: Global, expr: &Expr, own: &Row, inner: &List<Row>) -> Res
 
 /// The value of the expression, if it is there.
 #[cycle(value_in)]
-#[tactic(auto, using(crate::specs::NumberLaws::of_one_number, crate::specs::NumberLaws::of_two_number))]
+#[tactic(auto, using(crate::proofs::NumberLemmas::of_one_number, crate::proofs::NumberLemmas::of_two_number))]
 pub fn value_in<R: Reading>(
     alloc: Global,
     expr: &Expr,

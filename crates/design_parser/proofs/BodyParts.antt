@@ -12,8 +12,10 @@ use Rattle.grammar_core.specs.Classes.{Lexeme, is, one_of, all_in}
 use Rattle.grammar_core.specs.Words.{Nothing, Then, Made, Either, Sym, Else, Any, Several, Folded, Listed, at_end}
 use Rattle.grammar_core.specs.Reading.{made_at, either_at, any_at, several_at, listed_at}
 use Rattle.grammar_core.specs.Spelled.{name_at}
-use Rattle.grammar_core.specs.Parts.{Part, Begins, none, made_part, nothing_part}
-use Rattle.grammar_core.specs.Repeats.{Repeated, repeated}
+use Rattle.grammar_core.specs.Parts.{Part, Begins, none}
+use Rattle.grammar_core.specs.PartLaws.{made_part, nothing_part}
+use Rattle.grammar_core.specs.Repeats.{Repeated}
+use Rattle.grammar_core.specs.RepeatLaws.{repeated}
 use Rattle.grammar_core.specs.ClassLaws.{sym_part, closed_then, open_then, open_before, begins_made, begins_then, begins_either, begins_in, begins_more, begins_sym, begins_past, choice_part, choice_any, choice_or, optional_part, each_part, several_part, listed_part, any_part, with_more, swapped, made_or, folded_or, begins_or, either_or, or_in}
 use Rattle.design_parser.specs.Trees.{reference, argument, branch, param, row, poset, catalogue, no_items, with_item, net}
 use Rattle.design_parser.specs.Grammar.{Name, Names, Port, Rule, Arg, Ref, Branch, Instance, Cells, Row, Rows, Catalogue, Choose, NetItemOf, Net, Body, Chain, Poset, Interface, Param, Template, Written, Query}

@@ -13,8 +13,8 @@ use Rattle.grammar_core.specs.declared.class.Class.{Class}
 use Rattle.grammar_core.specs.declared.class.Class.TheVariants as class
 use Rattle.grammar_core.specs.Classes.{Lexeme, is, one_of, has}
 use Rattle.grammar_core.specs.ClassLaws.{found}
-use Rattle.grammar_core.specs.Few.{few_over}
-use Rattle.grammar_core.specs.Parts.{cases_bool}
+use Rattle.grammar_core.specs.FewLaws.{few_over}
+use Rattle.grammar_core.specs.PartLaws.{cases_bool}
 use Rattle.grammar_core.specs.Reading.{over}
 use Rattle.grammar_core.specs.Words.{Then, Made, Either, Many, Sym, Joined, Listed, fold, at_end, is_sign, signs}
 use Rattle.design_parser.specs.Depth.{depth, most}

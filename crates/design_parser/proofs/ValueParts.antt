@@ -11,8 +11,10 @@ use Rattle.grammar_core.specs.Classes.{Lexeme, is, one_of, has, all_in}
 use Rattle.grammar_core.specs.Words.{Nothing, Then, Made, Either, Placed, Sym, Mark, Else, Any, Listed, at_end}
 use Rattle.grammar_core.specs.Reading.{made_at, either_at, sym_at, mark_at, placed_at, give, listed_at}
 use Rattle.grammar_core.specs.Spelled.{numbers, unit_names, name_at}
-use Rattle.grammar_core.specs.Parts.{Part, Begins, none, made_part, nothing_part}
-use Rattle.grammar_core.specs.Repeats.{Repeated, repeated}
+use Rattle.grammar_core.specs.Parts.{Part, Begins, none}
+use Rattle.grammar_core.specs.PartLaws.{made_part, nothing_part}
+use Rattle.grammar_core.specs.Repeats.{Repeated}
+use Rattle.grammar_core.specs.RepeatLaws.{repeated}
 use Rattle.grammar_core.specs.ClassLaws.{mark_part, begins_mark, sym_part, closed_then, open_then, begins_made, begins_then, begins_either, begins_in, begins_more, begins_sym, choice_part, choice_any, maybe_part, listed_part, any_part, with_more, swapped}
 use Rattle.grammar_core.specs.PlacedLaws.{placed_part}
 use Rattle.design_parser.specs.Trees.{literal_value, port}

@@ -1,8 +1,7 @@
 -- Counts of failed calls, and what a call's result says of them.
-use Rattle.std.specs.Prelude.{◌≡◌, ℕ, ◌+◌, ◌-◌, ◌^◌, ◌≤◌, ◌<◌, ◌⊎◌, List, Result, Ok, Err, Bool, IsTrue, min}
-use Rattle.std.proofs.Common.{arith}
-use Rattle.design_world.specs.declared.world.WorldFault.{WorldFault}
+use Rattle.std.specs.Prelude.{◌≡◌, ℕ, ◌+◌, ◌-◌, ◌^◌, ◌≤◌, List, Result, Ok, Err, Bool, IsTrue, min}
 use Rattle.design_world.specs.declared.world.WorldFault.TheVariants.{Failed, Memory}
+use Rattle.design_world.specs.declared.world.WorldFault.{WorldFault}
 
 -- the count after one more, which stands still at the greatest u64
 abbrev pub one_more : ℕ → ℕ
@@ -11,10 +10,6 @@ one_more count = min (count + 1) (2 ^ 64 - 1)
 -- the count rose, or stands at its end
 abbrev pub Rose : ℕ → ℕ → Type 0
 Rose before now = one_more before ≤ now
-
--- what a count that rose means
-pub rose_means : (before now : ℕ) → Rose before now → (before < now) ⊎ (2 ^ 64 - 1 ≤ now)
-rose_means before now rose = grind arith
 
 -- a fact that holds where the call failed
 abbrev pub FailedOnly : {T : Type 0} → Result T WorldFault → Type 0 → Type 0

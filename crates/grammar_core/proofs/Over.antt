@@ -6,7 +6,7 @@ use Rattle.grammar_core.specs.declared.class.Class.TheVariants as class
 use Rattle.grammar_core.specs.Classes.{is, lexeme_of, lexemes_of}
 use Rattle.grammar_core.specs.Words.{is_sign}
 use Rattle.grammar_core.specs.Reading.{over}
-use Rattle.grammar_core.specs.Few.{over_nothing, over_past, over_sign, over_end, over_other}
+use Rattle.grammar_core.specs.FewLaws.{over_nothing, over_past, over_sign, over_end, over_other}
 
 -- the tokens from the place on
 next : (text : List ℕ) (ts : List Token) (i : ℕ) (d : Token) → i < length ts → lexemes_of text (drop i ts) ≡ lexeme_of text (slice_index_or ts i d) ∷ lexemes_of text (drop (i + 1) ts)

@@ -3,16 +3,19 @@ use Rattle.std.proofs.Common.{◌≡◌, ℕ, zero, suc, Bool, true, false, ◌|
 use Rattle.std.specs.Str.{bytes_eq}
 use Rattle.std.proofs.lemmas.Slice.Eq.{bytes_eq-Decides}
 use Rattle.std.proofs.lemmas.Bool.{eqb-true}
-use Rattle.order_core.specs.Members.{first, second, both}
+use Rattle.order_core.specs.MemberLaws.{first, second, both}
 use Rattle.design_lexer.specs.declared.token.TokenKind.{TokenKind}
 use Rattle.design_lexer.specs.declared.token.TokenKind.TheVariants as token
 use Rattle.grammar_core.specs.declared.class.Class.{Class}
 use Rattle.grammar_core.specs.Classes.{Lexeme, code, kind_of, spelling_of, is_free, is, starts, stops, one_of, sample, same_class, has, all_in, disjoint}
-use Rattle.grammar_core.specs.Fillers.{can_fill, sample_fills}
+use Rattle.grammar_core.specs.Fillers.{can_fill}
+use Rattle.grammar_core.specs.FillerLaws.{sample_fills}
 use Rattle.grammar_core.specs.Words.{One, Nothing, Then, Made, Either, Many, Folded, Sym, Mark, Else, Several, Listed, at_end}
 use Rattle.grammar_core.specs.Reading.{token_at, then_at, either_at, many_at, sym_at, mark_at, give, several_at, listed_at}
-use Rattle.grammar_core.specs.Parts.{Opens, Took, Stuck, Part, Begins, none, stops_none, cases_bool, Follows, then_part, token_part, nothing_part, made_part, either_part, wider, stops_fewer}
-use Rattle.grammar_core.specs.Repeats.{Repeated, repeated, many_part, starts_front, stops_right, head_stops}
+use Rattle.grammar_core.specs.Parts.{Opens, Took, Stuck, Part, Begins, none, Follows}
+use Rattle.grammar_core.specs.PartLaws.{stops_none, cases_bool, then_part, token_part, nothing_part, made_part, either_part, wider, stops_fewer}
+use Rattle.grammar_core.specs.Repeats.{Repeated}
+use Rattle.grammar_core.specs.RepeatLaws.{repeated, many_part, starts_front, stops_right, head_stops}
 
 -- ---- classes
 

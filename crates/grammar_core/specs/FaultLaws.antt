@@ -4,10 +4,11 @@ use Rattle.std.proofs.lemmas.List.{length-append, drop_at}
 use Rattle.grammar_core.specs.Classes.{Lexeme}
 use Rattle.grammar_core.specs.Words.{place_or}
 use Rattle.grammar_core.specs.Faults.{FailsAt}
-use Rattle.grammar_core.specs.Fillers.{fillers_proper}
+use Rattle.grammar_core.specs.FillerLaws.{fillers_proper}
 use Rattle.grammar_core.specs.Reading.{whole}
-use Rattle.grammar_core.specs.Parts.{Part, done_is}
-use Rattle.grammar_core.specs.Whole.{whole_again, whole_fails}
+use Rattle.grammar_core.specs.Parts.{Part}
+use Rattle.grammar_core.specs.PartLaws.{done_is}
+use Rattle.grammar_core.specs.WholeLaws.{whole_again, whole_fails}
 
 -- no more tokens are left than there are
 pub fails_within : {A : Type 0} (on : Lexeme → Bool) (W : List Lexeme → A → Type 0) (p : List Lexeme → Result (A × List Lexeme) ℕ) → Part on W p → (ts : List Lexeme) (n : ℕ) → whole (p ts) ≡ Err n → n ≤ length ts

@@ -1,9 +1,7 @@
 -- What the code gives, against reading on lists.
-use Rattle.std.specs.Prelude.{◌≡◌, ℕ, Some, None, Result, Ok, Err}
-use Rattle.std.specs.Result.{result_err}
-use Rattle.std.proofs.Common.{ap, ◌∙◌}
-use Rattle.grammar_core.specs.declared.fault.ReadFault.{ReadFault}
+use Rattle.std.specs.Prelude.{◌≡◌, ℕ, Result, Ok, Err}
 use Rattle.grammar_core.specs.declared.fault.ReadFault.TheVariants as fault
+use Rattle.grammar_core.specs.declared.fault.ReadFault.{ReadFault}
 
 -- the fault is the one of reading, unless memory was refused
 abbrev pub FaultIs : {Y : Type 0} → ReadFault → Result Y ℕ → Type 0
@@ -13,21 +11,3 @@ FaultIs (fault.Left n) read = read ≡ Err n
 abbrev pub Gives : {X Y : Type 0} → (X → Y) → Result X ReadFault → Result Y ℕ → Type 0
 Gives view (Ok x) read = read ≡ Ok (view x)
 Gives view (Err e) read = FaultIs e read
-
--- the fault of the code is that of reading
-pub fault_given : {X Y : Type 0} (view : X → Y) (r : Result X ReadFault) (read : Result Y ℕ) (n : ℕ) → Gives view r read → result_err r ≡ Some (fault.Left n) → read ≡ Err n
-fault_given view (Ok x) read n g e = absurd (none_some _ e)
-  where
-    none_some : (d : ReadFault) → None ≡ Some d → ⊥
-    none_some d e = cc
-fault_given view (Err fault.Memory) read n g e = absurd (other e)
-  where
-    other : Some fault.Memory ≡ Some (fault.Left n) → ⊥
-    other e = cc
-fault_given {Y = Y} view (Err (fault.Left m)) read n g e = g ∙ ap (λ k. err k) (same e)
-  where
-    err : ℕ → Result Y ℕ
-    err k = Err k
-
-    same : Some (fault.Left m) ≡ Some (fault.Left n) → m ≡ n
-    same e = cc

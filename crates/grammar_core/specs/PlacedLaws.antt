@@ -1,20 +1,16 @@
 -- The place of a part's first token.
 use Rattle.std.proofs.Common.{◌≡◌, ℕ, Bool, true, false, IsTrue, List, [], ◌∷◌, ◌++◌, Result, Ok, refl, sym, ap, subst, ◌∙◌}
+use Rattle.grammar_core.specs.Reading.{◌>>=◌}
 use Rattle.grammar_core.specs.Classes.{Lexeme, starts}
+use Rattle.grammar_core.specs.PartLaws.{made_ok, made_err}
+use Rattle.grammar_core.specs.Parts.{Opens, Part, Begins, done}
+use Rattle.grammar_core.specs.Reading.{instead, placed_at}
 use Rattle.grammar_core.specs.Words.{Placed, place_or}
-use Rattle.grammar_core.specs.Reading.{◌>>=◌, instead, placed_at}
-use Rattle.grammar_core.specs.Parts.{SameHead, Opens, Part, Begins, done, made_ok, made_err}
 
 -- its place is that of what it begins
 front_place : (test : Lexeme → Bool) (front rest : List Lexeme) → IsTrue (starts test front) → place_or 0 (front ++ rest) ≡ place_or 0 front
 front_place test [] rest h = absurd (let z : false ≡ true = h in cc)
 front_place test (t ∷ front) rest h = refl
-
-head_place : (front ts us : List Lexeme) → SameHead ts us → place_or 0 (front ++ us) ≡ place_or 0 (front ++ ts)
-head_place [] [] us h = absurd h
-head_place [] (t ∷ ts) [] h = absurd h
-head_place [] (t ∷ ts) (u ∷ us) h = ap (λ z. z.at) (sym h)
-head_place (t ∷ front) ts us h = refl
 
 pub placed_part : {A : Type 0} (on test : Lexeme → Bool) (W : List Lexeme → A → Type 0) (p : List Lexeme → Result (A × List Lexeme) ℕ) → Begins test W → Part on W p → Part on (Placed W) (placed_at p)
 placed_part {A = A} on test W p b g = record {

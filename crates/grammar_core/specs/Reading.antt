@@ -1,9 +1,9 @@
 -- Reading from left to right. What is read is a value with the tokens after it; a fault is the number of tokens left where nothing goes on.
 use Rattle.std.specs.Prelude.{ℕ, zero, suc, ◌+◌, ◌-◌, Bool, cond, Option, Some, None, List, [], ◌∷◌, length, take, Result, Ok, Err}
-use Rattle.grammar_core.specs.declared.class.Class.{Class}
-use Rattle.grammar_core.specs.declared.class.Class.TheVariants as class
 use Rattle.grammar_core.specs.Classes.{Lexeme, is, starts}
 use Rattle.grammar_core.specs.Words.{at_end, place_or, is_sign}
+use Rattle.grammar_core.specs.declared.class.Class.TheVariants as class
+use Rattle.grammar_core.specs.declared.class.Class.{Class}
 
 -- a way of reading a value
 abbrev pub Reader : Type 0 → Type 0

@@ -3,10 +3,11 @@ use Rattle.std.proofs.Common.{◌≡◌, ◌∙◌, refl, sym, subst, ℕ, suc, 
 use Rattle.std.specs.Prelude.{slice_get}
 use Rattle.std.specs.List.{list_all}
 use Rattle.order_core.specs.Order.{IsOrder}
-use Rattle.order_core.specs.Members.{IsMember, all_intro, mem-left, mem-right}
-use Rattle.antichain.specs.Basis.{minimal_member}
+use Rattle.order_core.specs.Members.{IsMember}
+use Rattle.order_core.specs.MemberLaws.{all_intro, mem-left, mem-right}
+use Rattle.antichain.specs.BasisLaws.{minimal_member}
 use Rattle.order_core.specs.Chains.{EndsChain, IsLeastEnd}
-use Rattle.kleene_loop.specs.Laws.{ends_values}
+use Rattle.kleene_loop.proofs.Ends.{ends_values}
 use Rattle.kleene_loop.specs.Ascent.{IsClimb, FirstHas}
 
 pub has_first : {A : Type 0} (P : A → Type 0) (xs : List A) → FirstHas xs P → 0 < length xs

@@ -1,15 +1,12 @@
 -- What an answer at the first point does.
-use Rattle.std.proofs.Common.{◌≡◌, refl, sym, subst, ℕ, suc, Bool, true, false, not, IsTrue, List, [], ◌∷◌, ◌++◌, filter, reverse, get_or, inl, Bor, Option, None, Some, Result, Ok, Err, IfOk, OnOk}
-use Rattle.std.specs.Prelude.{slice_get}
-use Rattle.std.specs.Option.{is_some, option_copied}
+use Rattle.std.proofs.Common.{◌≡◌, refl, sym, subst, ℕ, suc, Bool, true, false, not, IsTrue, List, [], ◌∷◌, ◌++◌, filter, reverse, get_or, inl, Result, Ok, Err, OnOk}
 use Rattle.std.specs.List.{list_all, list_any}
 use Rattle.order_core.specs.Chains.{EndsChain}
-use Rattle.order_core.specs.Members.{all_intro}
 use Rattle.order_core.specs.Order.{IsOrder}
-use Rattle.antichain.specs.Basis.{IsBasis, IsRaise, AreRaises}
+use Rattle.antichain.specs.Basis.{IsBasis, IsRaise}
+use Rattle.antichain.specs.Covers.{IsCover}
 use Rattle.antichain.specs.Minima.{inserted_all}
 use Rattle.kleene_loop.specs.Ascent.{AreFound, FirstHas, IsAnswered, IsClimb, IsRaisedBy, Moves}
-use Rattle.kleene_loop.specs.First.{empty_of_no_first}
 use Rattle.kleene_loop.proofs.Answered.{todo_values}
 use Rattle.kleene_loop.proofs.Raising.{found_of, raised_by_bounds, raised_by_found, raised_by_keeping}
 use Rattle.kleene_loop.proofs.Steps.{goes_of, outcomes_values, stays_of}
@@ -18,10 +15,6 @@ use Rattle.kleene_loop.proofs.Steps.{goes_of, outcomes_values, stays_of}
 pub both_ok : {X E : Type 0} (r : Result X E) (P Q S : Type 0) → (P → Q → S) → OnOk r P → OnOk r Q → OnOk r S
 both_ok (Ok x) P Q S f p q = f p q
 both_ok (Err e) P Q S f p q = tt
-
-pub if_both : {X E : Type 0} (r : Result X E) (P Q S : X → Type 0) → ((x : X) → P x → Q x → S x) → IfOk r P → IfOk r Q → IfOk r S
-if_both (Ok x) P Q S f p q = f x p q
-if_both (Err e) P Q S f p q = tt
 
 pub map_ok : {X E : Type 0} (r : Result X E) (P S : Type 0) → (P → S) → OnOk r P → OnOk r S
 map_ok (Ok x) P S f p = f p
@@ -71,12 +64,12 @@ module _ {A : Type 0} (is_value : A → Bool) (leq : A → A → Bool) (leads : 
   first_goes (y ∷ rest) climb h e t =
       goes_of is_value leq leads laws k y rest kept raised left climb outcomes h (subst (λ (z : A). list_any (λ o. leq o z) outcomes ≡ false) e t)
 
-  pub first_found : (todo found : List A) → Here todo → Known todo → x ≡ get_or todo 0 x → AreRaises is_value leq x outcomes found
+  pub first_found : (todo found : List A) → Here todo → Known todo → x ≡ get_or todo 0 x → IsCover leq (IsRaise is_value leq x outcomes) found
       → FirstHas todo (λ z. AreFound is_value leq leads z kept (filter (λ t. not (list_any (λ y. leq y t) kept)) found))
   first_found [] found climb h e r = absurd h
   first_found (y ∷ rest) found climb h e r =
       let y_is = todo_values is_value leq leads laws k (y ∷ rest) kept raised left climb y (inl refl) in
-      found_of is_value leq leads laws k (y ∷ rest) kept raised left climb y y_is outcomes h found (subst (λ (z : A). AreRaises is_value leq z outcomes found) e r)
+      found_of is_value leq leads laws k (y ∷ rest) kept raised left climb y y_is outcomes h found (subst (λ (z : A). IsCover leq (IsRaise is_value leq z outcomes) found) e r)
 
   abbrev Raised : List A → List A → List A → Type 0
   Raised todo kept2 raised2 = FirstHas todo (λ z. IsRaisedBy leq (IsRaise is_value leq z outcomes) kept2 raised raised2)
@@ -96,11 +89,3 @@ module _ {A : Type 0} (is_value : A → Bool) (leq : A → A → Bool) (leads : 
       rw (e, r)
       (raised_by_bounds is_value leq leads laws k (y ∷ todo) kept raised left climb y y_is outcomes h _
       (raised_by_found is_value leq leads laws k (y ∷ todo) kept raised left climb y y_is found f))
-
-pub raises_are : {A : Type 0} (is_value : A → Bool) (leq : A → A → Bool) (x : A) (items found : List A) → AreRaises is_value leq x items found → IsTrue (list_all is_value found)
-raises_are is_value leq x items found h = all_intro is_value found (λ t m. (h.raises t m).value)
-
--- no item, where a look-up of the first one gave none
-pub empty_of_none : {A : Type 0} (xs : List A) (look : Option (Bor A)) → option_copied look ≡ slice_get xs 0 → is_some look ≡ false → xs ≡ []
-empty_of_none xs None e n = empty_of_no_first xs e
-empty_of_none xs (Some x) e n = absurd (cc)

@@ -1,4 +1,6 @@
 pub mod Answered
 pub mod AtFirst
+pub mod Ends
 pub mod Raising
+pub mod Reversed
 pub mod Steps

@@ -1,16 +1,18 @@
 -- What an answer finds, and what is raised then.
 use Rattle.std.proofs.Common.{◌≡◌, ◌∙◌, refl, sym, subst, ℕ, suc, Bool, true, false, not, IsTrue, List, [], ◌∷◌, ◌++◌, filter, reverse, ◌⊎◌, inl, inr}
 use Rattle.std.specs.List.{list_all, list_any}
-use Rattle.order_core.specs.Incomparable.{incomparable-left, incomparable-cross}
-use Rattle.order_core.specs.Members.{IsMember, any_elim, none_elim, second, not_true, true_not, decide, all_elim, all_intro, mem-left, mem-right, mem-split, mem-filter, filter-mem}
+use Rattle.order_core.specs.IncomparableLaws.{incomparable-left, incomparable-cross}
+use Rattle.order_core.specs.Members.{IsMember}
+use Rattle.order_core.specs.MemberLaws.{any_elim, none_elim, second, not_true, true_not, decide, all_elim, all_intro, mem-left, mem-right, mem-split, mem-filter, filter-mem}
 use Rattle.order_core.specs.Order.{IsOrder, are_incomparable}
-use Rattle.antichain.specs.Basis.{Below, IsBasis, IsRaise, AreRaises}
-use Rattle.antichain.specs.BasisLaws.{mem-reverse, reverse-mem}
-use Rattle.antichain.specs.Inserted.{all_fit, all_from, all_still, all_below}
-use Rattle.antichain.specs.Lists.{incomparable-filter}
+use Rattle.antichain.specs.Basis.{Below, IsBasis, IsRaise}
+use Rattle.antichain.specs.Covers.{IsCover}
+use Rattle.antichain.specs.InsertedLaws.{all_apart, all_from, all_still, all_below}
+use Rattle.antichain.specs.ListLaws.{incomparable-filter}
 use Rattle.antichain.specs.Minima.{inserted_all}
 use Rattle.kleene_loop.specs.Ascent.{AreFound, IsClimb, IsRaisedBy}
-use Rattle.kleene_loop.specs.Laws.{ends_values}
+use Rattle.kleene_loop.proofs.Ends.{ends_values}
+use Rattle.kleene_loop.proofs.Reversed.{mem-reverse, reverse-mem}
 
 module _ {A : Type 0} (is_value : A → Bool) (leq : A → A → Bool) (leads : A → A → Type 0) (laws : IsOrder is_value leq)
     (k : ℕ) (todo kept raised left : List A) (climb : IsClimb is_value leq leads k todo kept raised left) (x : A) (x_is : IsTrue (is_value x)) where
@@ -42,10 +44,10 @@ module _ {A : Type 0} (is_value : A → Bool) (leq : A → A → Bool) (leads : 
     leads_raise : (t : A) → IsTrue (leq x t) → leads x t → IsRaise is_value leq x outcomes t
     leads_raise t l d = record { value = climb.monotone.states x t x_is d; above = l; below = basis.complete t d }
 
-    pub found_of : (found : List A) → AreRaises is_value leq x outcomes found → AreFound is_value leq leads x kept (filter (λ t. not (list_any (λ y. leq y t) kept)) found)
+    pub found_of : (found : List A) → IsCover leq (IsRaise is_value leq x outcomes) found → AreFound is_value leq leads x kept (filter (λ t. not (list_any (λ y. leq y t) kept)) found)
     found_of found h = record {
-      values = all_intro is_value _ (λ t m. (h.raises t (in_found t m).0).value);
-      above = λ t m. raise_leads t (h.raises t (in_found t m).0);
+      values = all_intro is_value _ (λ t m. (h.elements t (in_found t m).0).value);
+      above = λ t m. raise_leads t (h.elements t (in_found t m).0);
       free = λ t y m n l. none_elim (λ z. leq z t) kept y (not_true _ (in_found t m).1) n l;
       complete = λ t l d. complete t (leads_raise t l d);
     }
@@ -57,7 +59,7 @@ module _ {A : Type 0} (is_value : A → Bool) (leq : A → A → Bool) (leads : 
             → Below leq (filter (λ t. not (list_any (λ y. leq y t) kept)) found ++ kept) t
         by t f tv m l (inl h2) =
             let w = any_elim (λ y. leq y f) kept h2 in
-            (w.0, mem-right (filter (λ t. not (list_any (λ y. leq y t) kept)) found) kept w.0 w.1, laws.transitive w.0 f t (kept_are w.0 w.1) (h.raises f m).value tv w.2 l)
+            (w.0, mem-right (filter (λ t. not (list_any (λ y. leq y t) kept)) found) kept w.0 w.1, laws.transitive w.0 f t (kept_are w.0 w.1) (h.elements f m).value tv w.2 l)
         by t f tv m l (inr e) = (f, mem-left (filter (λ t. not (list_any (λ y. leq y t) kept)) found) kept f (filter-mem (λ t. not (list_any (λ y. leq y t) kept)) found f m (true_not _ e)), l)
 
         complete : (t : A) → IsRaise is_value leq x outcomes t → Below leq (filter (λ t. not (list_any (λ y. leq y t) kept)) found ++ kept) t
@@ -121,7 +123,7 @@ module _ {A : Type 0} (is_value : A → Bool) (leq : A → A → Bool) (leads : 
 
     pub raised_by_found : IsRaisedBy leq (λ t. IsTrue (leq x t) × leads x t) kept raised (inserted_all leq raised (reverse found))
     raised_by_found = record {
-      incomparable = (all_fit is_value leq laws (reverse found) raised new_are (raised_are, raised_apart)).1;
+      incomparable = (all_apart is_value leq laws (reverse found) raised new_are (raised_are, raised_apart)).1;
       from = λ t m. from t (made_from t m);
       free = λ t y m n. free t y (made_from t m) n;
       covers_old = λ t m. old t m;

@@ -2,13 +2,15 @@
 use Rattle.std.proofs.Common.{◌≡◌, refl, sym, subst, ℕ, suc, Bool, false, not, IsTrue, List, [], ◌∷◌, ◌++◌, filter, ◌⊎◌, inl, inr, append_assoc}
 use Rattle.std.specs.List.{list_all, list_any}
 use Rattle.order_core.specs.ChainLaws.{least_steps_to_itself}
-use Rattle.order_core.specs.Incomparable.{apart_intro, incomparable-left, incomparable-right, incomparable-cross, incomparable-join, incomparable-within}
-use Rattle.order_core.specs.Members.{IsMember, any_elim, none_elim, first, both, not_true, true_not, decide, all_elim, all_intro, mem-left, mem-right, mem-split, mem-filter, filter-mem, mem-front, mem-within, empty_of_none, append_nil}
+use Rattle.order_core.specs.IncomparableLaws.{apart_intro, incomparable-left, incomparable-right, incomparable-cross, incomparable-join, incomparable-within}
+use Rattle.order_core.specs.Members.{IsMember}
+use Rattle.order_core.specs.MemberLaws.{any_elim, none_elim, first, both, not_true, true_not, decide, all_elim, all_intro, mem-left, mem-right, mem-split, mem-filter, filter-mem, mem-front, mem-within, empty_of_none, append_nil}
 use Rattle.order_core.specs.Order.{IsOrder, IsLeast, apart, are_incomparable}
-use Rattle.antichain.specs.Basis.{Below, IsBasis, minimal_member, member_of_minimal, least_basis}
-use Rattle.antichain.specs.Lists.{incomparable-filter}
+use Rattle.antichain.specs.Basis.{Below, IsBasis}
+use Rattle.antichain.specs.BasisLaws.{minimal_member, member_of_minimal, least_basis}
+use Rattle.antichain.specs.ListLaws.{incomparable-filter}
 use Rattle.order_core.specs.Chains.{IsMonotone, EndsChain, IsLeastEnd, IsSteady}
-use Rattle.kleene_loop.specs.Laws.{ends_values, ends_upward, ends_fall, self_stays, ends_above}
+use Rattle.kleene_loop.proofs.Ends.{ends_values, ends_upward, ends_fall, self_stays, ends_above}
 use Rattle.kleene_loop.specs.Ascent.{IsClimb, IsRaisedBy, IsAscent}
 
 -- An element of a basis may stand anywhere.
@@ -271,6 +273,7 @@ module _ {A : Type 0} (is_value : A → Bool) (leq : A → A → Bool) (leads : 
       stays = climb.stays;
       once = (climb.incomparable, incomparable-right leq kept left climb.basis.incomparable);
       steady = (steady, λ s. empty_of_none left (λ x m. climb.goes x m (s x (climb.basis.elements x (mem-right kept left x m)))));
+      complete = next_basis.complete;
       none_fresh = λ e. empty_of_none raised (λ x m. let b = climb.above x m in none_of e b.0 b.1);
     }
       where

@@ -35,13 +35,14 @@ pub record AreFound {A : Type 0} (is_value : A → Bool) (leq : A → A → Bool
   pub free : (t y : A) → IsMember t found → IsMember y kept → IsTrue (leq y t) → ⊥
   pub complete : (t : A) → IsTrue (leq x t) → leads x t → Below leq (found ++ kept) t
 
--- What an ascent hands out at the end of round k.
+-- What an ascent hands out at the end of round k. The fresh and the settled points are a basis of the ends of chains of k + 1 steps.
 pub record IsAscent {A : Type 0} (is_value : A → Bool) (leq : A → A → Bool) (leads : A → A → Type 0) (k : ℕ) (settled fresh left : List A) : Type 0 where
   pub in_settled : (x : A) → IsMember x settled ↔ (IsLeastEnd is_value leq leads (suc k) x × IsLeastEnd is_value leq leads k x)
   pub in_fresh : (x : A) → IsMember x fresh ↔ (IsLeastEnd is_value leq leads (suc k) x × (IsLeastEnd is_value leq leads k x → ⊥))
   pub in_left : (x : A) → IsMember x left ↔ (IsLeastEnd is_value leq leads k x × (EndsChain is_value leq leads (suc k) x → ⊥))
   pub stays : (x : A) → IsMember x settled → leads x x
   pub once : IsTrue (are_incomparable leq (fresh ++ settled)) × IsTrue (are_incomparable leq left)
+  pub complete : (t : A) → EndsChain is_value leq leads (suc k) t → Below leq (fresh ++ settled) t
   pub steady : (left ≡ []) ↔ IsSteady is_value leq leads k
   pub none_fresh : left ≡ [] → fresh ≡ []
 

@@ -8,10 +8,9 @@ ghost use Rattle.antichain.specs.Minima.{inserted_all};
 ghost use Rattle.kleene_loop.specs.Ascent.{AreFound, FirstHas, IsAnswered, IsAscent, IsRaisedBy, Moves};
 ghost use Rattle.kleene_loop.specs.New.{IsNew};
 
+use crate::points::{insert_all_reserved, remove_above_any};
 use crate::relation::Relation;
-use antichain::scan::{
-    all_bounds, insert_all_reserved, remove_above, remove_above_any, some_below,
-};
+use antichain::{all_bounds, remove_above, some_below};
 use order_core::{List, NoMemory, Order};
 use std::alloc::Global;
 use std::collections::VecDeque;

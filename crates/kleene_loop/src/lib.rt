@@ -2,11 +2,10 @@
 #![tactic(auto)]
 
 mod climb;
-mod driver;
 mod laws;
+mod points;
 mod relation;
 
 pub use climb::{Ascent, Climb};
-pub use driver::{Outcomes, ascend};
-pub use laws::points_are_asked_once;
+pub use laws::{chains_rise_fall_and_settle, points_are_asked_once};
 pub use relation::Relation;

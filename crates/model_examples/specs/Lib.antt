@@ -1,18 +1,20 @@
+-- Read Words first, and then each example by itself: its design stands at the head of its file.
 pub mod Back
 pub mod Batteries
 pub mod Climb
+pub mod Either
 pub mod Elements
+pub mod Fractions
 pub mod Lifter
-pub mod Minima
 pub mod Motors
-pub mod NoParts
 pub mod NumberRows
-pub mod OnePart
+pub mod Once
+pub mod Outer
 pub mod Relay
 pub mod ShortRows
 pub mod Successor
-pub mod SuccessorLaws
 pub mod TableOrder
+pub mod TableOrderLaws
 pub mod Trade
 pub mod TwoBounds
 pub mod Words

@@ -1,0 +1,4 @@
+pub mod AcyclicLemmas
+pub mod CycleLemmas
+pub mod KindFoldLemmas
+pub mod ReadingLaws

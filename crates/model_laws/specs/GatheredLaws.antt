@@ -1,13 +1,14 @@
 -- The values of signals, gathered from what parts carry.
 use Rattle.std.specs.Prelude.{◌≡◌, ℕ, Bool, true, false, cond, ◌&&◌, ◌==◌, IsTrue, List, [], ◌∷◌, map, Some}
 use Rattle.std.proofs.Common.{refl, sym, ap, subst, ◌∙◌, inl, inr}
-use Rattle.order_core.specs.Members.{IsMember, first, second, both}
+use Rattle.order_core.specs.Members.{IsMember}
+use Rattle.order_core.specs.MemberLaws.{first, second, both}
 use Rattle.order_core.specs.Pointwise.{Pointwise}
 use Rattle.value_type.specs.declared.kind.Kind.{Kind}
 use Rattle.value_type.specs.declared.poset.Types.{Types}
 use Rattle.value_type.specs.declared.value.Value.{Value}
 use Rattle.value_type.specs.Fits.{fits, row_fits}
-use Rattle.value_type.specs.KindOrder.{kind_laws}
+use Rattle.value_type.specs.KindOrderLaws.{kind_laws}
 use Rattle.value_type.specs.Leq.{leq}
 use Rattle.design_model.specs.Cuts.{Signal}
 use Rattle.design_model.specs.Rows.{Row}
@@ -15,7 +16,7 @@ use Rattle.design_model.specs.Step.{signal_value, IsCovered}
 use Rattle.design_model.specs.ValueOf.{port_at}
 use Rattle.design_model.specs.Wiring.{Carried, required_rows, kind_at}
 use Rattle.model_laws.specs.SignalLaws.{signal, later, same_port, IsInPlace, kind_is}
-use Rattle.model_laws.specs.ValuesLeq.{ValuesLeq, FitsAt}
+use Rattle.design_model.specs.ValuesInOrder.{ValuesLeq, FitsAt}
 
 -- The part carries this value at the signal's port.
 abbrev pub CarriesAt : List Row → Signal → Value → Type 0

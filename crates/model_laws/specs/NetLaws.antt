@@ -8,12 +8,13 @@ use Rattle.value_type.specs.Fits.{row_fits}
 use Rattle.value_type.specs.PortKinds.{port_kinds}
 use Rattle.design_model.specs.Cuts.{cut_signals}
 use Rattle.design_model.specs.Rows.{Row}
-use Rattle.design_model.specs.Steady.{NetOf, design_of, wiring, MayCarryIn, StepsIn, EndsIn, EndsLeastIn}
+use Rattle.design_model.specs.Steady.{NetOf, design_of, wiring, MayCarryIn}
+use Rattle.design_model.specs.SteadyLaws.{StepsIn, EndsIn, EndsLeastIn}
 use Rattle.design_model.specs.Step.{is_state, state_leq}
 use Rattle.design_model.specs.Typed.{IsTyped}
 use Rattle.design_model.specs.TypedLaws.{IsTyped-Net}
 use Rattle.design_model.specs.Wiring.{Carried}
-use Rattle.model_laws.specs.RoundsMonotone.{feasible_carried_fits}
+use Rattle.model_laws.specs.RoundsMonotoneLaws.{feasible_carried_fits}
 use Rattle.model_laws.specs.SatisfiedLaws.{CarriedFits}
 use Rattle.model_laws.specs.SteadyLaws.{steady_at_once}
 use Rattle.model_laws.specs.StepLaws.{states_in_order, steps_monotone}

@@ -6,7 +6,7 @@ use Rattle.value_type.specs.declared.kind.Kind.{Kind}
 use Rattle.value_type.specs.declared.poset.Types.{Types}
 use Rattle.value_type.specs.declared.value.Value.{Value}
 use Rattle.value_type.specs.Fits.{row_fits}
-use Rattle.value_type.specs.KindOrder.{kind_laws}
+use Rattle.value_type.specs.KindOrderLaws.{kind_laws}
 use Rattle.value_type.specs.Leq.{leq, row_leq}
 use Rattle.value_type.specs.PortKinds.{port_kinds}
 use Rattle.design_model.specs.declared.design.Part.{Part}
@@ -20,8 +20,9 @@ use Rattle.design_model.specs.Rows.{Row}
 use Rattle.design_model.specs.Typed.{ConstraintIsTyped}
 use Rattle.design_model.specs.ValueOf.{Reads}
 use Rattle.design_model.specs.Wiring.{Wiring, Carried, provided_rows, required_rows, Satisfied, readable, greater_kind, greater_value}
-use Rattle.model_laws.specs.ExprMonotone.{ReadsLeq, value_rises}
-use Rattle.model_laws.specs.ValuesLeq.{ValuesLeq, itself, rows_at, part_row_at}
+use Rattle.design_model.specs.ExprRisesLaws.{value_rises}
+use Rattle.design_model.specs.ValuesInOrder.{ReadsLeq, ValuesLeq}
+use Rattle.design_model.specs.ValuesInOrderLaws.{itself, rows_at, part_row_at}
 
 -- What the parts carry fits their ports.
 pub record CarriedFits (t : Types) (net : Wiring) (carried : List Carried) : Type 0 where

@@ -3,7 +3,8 @@ use Rattle.std.specs.Prelude.{◌≡◌, ◌+◌, ℕ, zero, suc, Bool, true, fa
 use Rattle.std.specs.List.{enumerate_from}
 use Rattle.std.proofs.Common.{refl, sym, ap, subst, ◌∙◌, arith, inl, inr}
 use Rattle.std.proofs.lemmas.Bool.{eqb-true}
-use Rattle.order_core.specs.Members.{IsMember, first, second, both, any_intro, mem-map, map-mem, mem-flat_map, flat_map-mem, mem-filter, filter-mem}
+use Rattle.order_core.specs.Members.{IsMember}
+use Rattle.order_core.specs.MemberLaws.{first, second, both, any_intro, mem-map, map-mem, mem-flat_map, flat_map-mem, mem-filter, filter-mem}
 use Rattle.value_type.specs.declared.kind.Kind.{Kind}
 use Rattle.value_type.specs.declared.poset.Types.{Types}
 use Rattle.value_type.specs.Fits.{fits, row_fits}
@@ -14,8 +15,8 @@ use Rattle.design_model.specs.Reading.{reads_port}
 use Rattle.design_model.specs.Rows.{Row}
 use Rattle.design_model.specs.Step.{signal_value}
 use Rattle.design_model.specs.Wiring.{Wiring, kind_at}
-use Rattle.model_laws.specs.ExprMonotone.{equal_self}
-use Rattle.model_laws.specs.ValuesLeq.{ValuesLeq}
+use Rattle.design_model.specs.ExprRisesLaws.{equal_self}
+use Rattle.design_model.specs.ValuesInOrder.{ValuesLeq}
 
 -- a signal by its parts
 abbrev pub signal : ℕ → ℕ → Kind → Signal

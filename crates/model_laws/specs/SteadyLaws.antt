@@ -3,12 +3,13 @@ use Rattle.std.specs.Prelude.{◌≡◌, ℕ, suc, cond, IsTrue, List, [], take,
 use Rattle.std.proofs.Common.{ap, sym, subst, ◌∙◌}
 use Rattle.order_core.specs.ChainLaws.{stays}
 use Rattle.order_core.specs.Chains.{IsSteady}
-use Rattle.order_core.specs.Pointwise.{each_weaker}
+use Rattle.order_core.specs.PointwiseLaws.{each_weaker}
 use Rattle.value_type.specs.declared.poset.Types.{Types}
 use Rattle.design_model.specs.declared.expr.Greater.{Greater}
 use Rattle.design_model.specs.Cuts.{Signal, cut_signals, is_cut_read}
 use Rattle.design_model.specs.Rows.{Row}
-use Rattle.design_model.specs.Step.{is_state, state_leq, own_values, signal_value, step_reads, Steps}
+use Rattle.design_model.specs.Step.{is_state, state_leq, own_values, signal_value, step_reads}
+use Rattle.design_model.specs.StepLaws.{Steps}
 use Rattle.design_model.specs.ValueOf.{Reads, port_at}
 use Rattle.design_model.specs.Wiring.{Wiring, Carried, required_rows, Satisfied}
 use Rattle.model_laws.specs.StepLaws.{states_in_order}

@@ -2,28 +2,31 @@
 use Rattle.std.specs.Prelude.{◌≡◌, ℕ, Bool, true, false, cond, IsTrue, IsSomeAnd, List, [], ◌∷◌, map, Option, Some, None}
 use Rattle.std.proofs.Common.{refl, sym, subst, inl, inr}
 use Rattle.order_core.specs.Chains.{IsMonotone}
-use Rattle.order_core.specs.Members.{IsMember, first, second}
+use Rattle.order_core.specs.Members.{IsMember}
+use Rattle.order_core.specs.MemberLaws.{first, second}
 use Rattle.order_core.specs.Order.{IsOrder}
-use Rattle.order_core.specs.Pointwise.{Each, Pointwise, each_got, each_weaker}
+use Rattle.order_core.specs.Pointwise.{Each, Pointwise}
+use Rattle.order_core.specs.PointwiseLaws.{each_got, each_weaker}
 use Rattle.value_type.specs.declared.kind.Kind.{Kind}
 use Rattle.value_type.specs.declared.poset.Types.{Types}
 use Rattle.value_type.specs.declared.value.Value.{Value}
 use Rattle.value_type.specs.Fits.{fits, row_fits}
-use Rattle.value_type.specs.KindOrder.{kind_laws, row_laws}
+use Rattle.value_type.specs.KindOrderLaws.{kind_laws, row_laws}
 use Rattle.value_type.specs.Leq.{leq, row_leq}
 use Rattle.design_model.specs.declared.expr.Constraint.{Constraint}
 use Rattle.design_model.specs.Cuts.{Signal, cut_signals, is_cut_read}
 use Rattle.design_model.specs.Reading.{reads_port}
 use Rattle.design_model.specs.Rows.{Row}
-use Rattle.design_model.specs.Step.{signal_kinds, state_kinds, is_state, state_leq, cut_values, own_values, signal_value, step_reads, IsCovered, Steps}
+use Rattle.design_model.specs.Step.{signal_kinds, state_kinds, is_state, state_leq, cut_values, own_values, signal_value, step_reads, IsCovered}
+use Rattle.design_model.specs.StepLaws.{Steps}
 use Rattle.design_model.specs.Typed.{ConstraintIsTyped}
 use Rattle.design_model.specs.ValueOf.{port_at}
 use Rattle.design_model.specs.Wiring.{Wiring, Carried, required_rows, readable}
-use Rattle.model_laws.specs.ExprMonotone.{ReadsLeq}
+use Rattle.design_model.specs.ValuesInOrder.{ReadsLeq, ValuesLeq, FitsAt}
+use Rattle.design_model.specs.ValuesInOrderLaws.{itself, rows_at, part_row_at}
 use Rattle.model_laws.specs.SatisfiedLaws.{CarriedFits, greater_rises, satisfied_rises}
 use Rattle.model_laws.specs.SignalLaws.{cut_in_place, is_cut_signal, signals_at}
 use Rattle.model_laws.specs.StateLaws.{split_fits, split_leq}
-use Rattle.model_laws.specs.ValuesLeq.{ValuesLeq, FitsAt, itself, rows_at, part_row_at}
 
 module _ (t : Types) (net : Wiring) where
   pub cut_fits : (s : Row) → IsTrue (is_state t net s) → IsTrue (row_fits t (signal_kinds net) (cut_values net s))

@@ -2,8 +2,10 @@
 
 ghost use Rattle.std.specs.Prelude.{◌≡◌, ◌+◌, ℕ, IsTrue, List, [], map};
 ghost use Rattle.order_core.specs.Chains.{IsMonotone, IsSteady};
+ghost use Rattle.order_core.specs.Order.{IsOrder};
 ghost use Rattle.value_type.specs.declared.poset.Types.{Types};
 ghost use Rattle.value_type.specs.Fits.{row_fits};
+ghost use Rattle.value_type.specs.Leq.{row_leq};
 ghost use Rattle.value_type.specs.PortKinds.{port_kinds};
 ghost use Rattle.design_model.specs.declared.design.Design.{Design};
 ghost use Rattle.design_model.specs.Cuts.{cut_signals};
@@ -12,10 +14,11 @@ ghost use Rattle.design_model.specs.Feasible.{IsFeasible};
 ghost use Rattle.design_model.specs.Parts.{provided_ports, required_ports};
 ghost use Rattle.design_model.specs.Rounds.{IsFeasibleIn};
 ghost use Rattle.design_model.specs.Rows.{Row};
-ghost use Rattle.design_model.specs.Steady.{NetOf, design_of, wiring, StepsIn, StepsInBy, EndsIn, EndsLeastIn, IsSteadyIn};
-ghost use Rattle.design_model.specs.Step.{is_state, state_leq, own_values};
+ghost use Rattle.design_model.specs.Steady.{NetOf, design_of, wiring};
+ghost use Rattle.design_model.specs.SteadyLaws.{StepsIn, StepsInBy, EndsIn, EndsLeastIn};
+ghost use Rattle.design_model.specs.Step.{is_state, state_kinds, state_leq, own_values};
 ghost use Rattle.design_model.specs.Typed.{IsTyped};
-ghost use Rattle.design_model.specs.Wiring.{Carried, wiring_of};
+ghost use Rattle.design_model.specs.Wiring.{Carried, Wiring, wiring_of};
 ghost use Rattle.design_model.specs.Heights.{surveyed};
 ghost use Rattle.design_model.specs.HeightsLaws.{of_part};
 ghost use Rattle.design_model.specs.declared.design.Part.{Part};
@@ -35,6 +38,13 @@ pub fn rounds_are_monotone()
 pub fn steps_are_monotone()
     ensures { (t : Types) (n : ℕ) (net : NetOf) (f : Row) → IsTyped t (design_of net) → IsTrue (row_fits t (port_kinds net.provides) f)
         → IsMonotone (is_state t (wiring net)) (state_leq t (wiring net)) (StepsIn t n net f) }
+{}
+
+/// The states of a net are rows of the types of its cut signals and own required ports, and are compared as these. So they are in order.
+pub fn states_are_rows()
+    ensures fit { (t : Types) (net : Wiring) (s : Row) → is_state t net s ≡ row_fits t (state_kinds net) s }
+    ensures compare { (t : Types) (net : Wiring) (s u : Row) → state_leq t net s u ≡ row_leq t (state_kinds net) s u }
+    ensures order { (t : Types) (net : Wiring) → IsOrder (is_state t net) (state_leq t net) }
 {}
 
 /// What is above the end of a chain ends one too, and a longer chain has no new end.
@@ -66,10 +76,9 @@ pub fn nets_without_loops_have_no_cut_signals()
     ensures { (net : NetOf) → ((p : ℕ) → ReadsItself (part_reads net.constraints) p → ⊥) → cut_signals (wiring net) ≡ [] }
 {}
 
-/// A net without cut signals is steady in every number of rounds. What ends a chain of one step ends chains of any number of steps.
+/// In a net without cut signals, what ends a chain of one step ends chains of any number of steps.
 pub fn nets_without_cut_signals_are_steady()
-    ensures steady { (t : Types) (n : ℕ) (net : NetOf) (f : Row) → cut_signals (wiring net) ≡ [] → IsSteadyIn t n net f }
-    ensures at_once { (t : Types) (n : ℕ) (net : NetOf) (f : Row) → cut_signals (wiring net) ≡ []
+    ensures { (t : Types) (n : ℕ) (net : NetOf) (f : Row) → cut_signals (wiring net) ≡ []
         → (k : ℕ) → IsSteady (is_state t (wiring net)) (state_leq t (wiring net)) (StepsIn t n net f) (k + 1) }
 {}
 

@@ -7,11 +7,11 @@ use Rattle.std.proofs.lemmas.List.Edits.{map_over_more}
 use Rattle.order_core.specs.Finite.{is_element, is_below, IsTable}
 use Rattle.order_core.specs.Mutual.{AreMutual, NoneMutual, IsFirstMutual}
 use Rattle.std.specs.List.{list_all}
-use Rattle.order_core.specs.Members.{first, second, all_at}
+use Rattle.order_core.specs.MemberLaws.{first, second, all_at}
 use Rattle.order_core.specs.Walk.{WalksAlong, Walk, IsClosure, is_pair_below, BothWays, IsFirstCycle}
-use Rattle.order_core.specs.WalkLaws.{walk_none, walk_join, walk_more, Led, walk_led, led_walk}
+use Rattle.order_core.proofs.WalkLaws.{walk_none, walk_join, walk_more, Led, walk_led, led_walk}
 use Rattle.order_core.specs.Word.{has}
-use Rattle.order_core.specs.WordLaws.{has_or, has_one, has_other}
+use Rattle.order_core.proofs.WordLaws.{has_or, has_one, has_other}
 
 pub closure_none : (n : ℕ) (table : List ℕ) → length table ≡ n → ((k : ℕ) → k < n → get_or table k 0 ≡ 2 ^ k) → IsClosure n [] table
 closure_none n table size rows = record { size = size; walks = λ a b l k. (there a b l, λ w. back a b l w.0 w.1) }

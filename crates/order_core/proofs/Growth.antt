@@ -2,7 +2,7 @@
 use Rattle.std.proofs.Common.{ℕ, ◌+◌, ◌<◌, ◌≤◌, ◌≡◌, ◌∙◌, refl, sym, ap, subst, Bool, IsTrue, List, [], ◌∷◌, ◌++◌, map, take, drop, length, get_or, append_assoc}
 use Rattle.std.proofs.lemmas.List.{map-append, map-id, take_more, take_all, drop_more, drop_all}
 use Rattle.std.specs.List.{list_all, flat_map}
-use Rattle.order_core.specs.Members.{first, second, both, all_elim, all_intro, mem-map, mem-flat_map, append_nil}
+use Rattle.order_core.specs.MemberLaws.{first, second, both, all_elim, all_intro, mem-map, mem-flat_map, append_nil}
 use Rattle.order_core.specs.Tuple.{are_values, product, with_each}
 
 -- each of the fronts followed by each of the tails

@@ -1,3 +1,11 @@
+pub mod ChainLemmas
 pub mod ClosingSteps
 pub mod Growth
+pub mod MinimalLaws
+pub mod MinimalListed
 pub mod MinimalSteps
+pub mod NumbersBelowLaws
+pub mod PointwiseLemmas
+pub mod ProductLemmas
+pub mod WalkLaws
+pub mod WordLaws

@@ -5,12 +5,14 @@ use Rattle.std.specs.Int.Bits.{bit_and, bit_or}
 use Rattle.std.proofs.lemmas.Bool.{cases_eq, cases_lt, or_cases, or_left, or_right, ltb-true, lt-ltb}
 use mir.Val.{bits}
 use Rattle.order_core.specs.Finite.{is_below}
-use Rattle.order_core.specs.Members.{IsMember, first, second, both, true_not, not_true}
+use Rattle.order_core.specs.Members.{IsMember}
+use Rattle.order_core.specs.MemberLaws.{first, second, both, true_not, not_true}
 use Rattle.order_core.specs.Minimal.{IsMinimal}
 use Rattle.order_core.specs.MinimalElements.{IsIn, IsCovered, AreMinimal}
+use Rattle.order_core.proofs.NumbersBelowLaws.{number_passes, passing_number, numbers_rise}
 use Rattle.order_core.specs.Upper.{rise_from}
 use Rattle.order_core.specs.Word.{has, members_below}
-use Rattle.order_core.specs.WordLaws.{has_none, has_or, has_and, has_not, has_cleared, has_kept, member_has, has_member, members_rise}
+use Rattle.order_core.proofs.WordLaws.{has_none, has_or, has_and, has_not, has_cleared, has_kept}
 
 pub none_covered : (table : List ℕ) (word x : ℕ) → x < 64 → IsTrue (has 0 x) ↔ IsCovered 0 table word x
 none_covered table word x l = (λ h. let no = has_none x in absurd (cc), λ h. absurd (omega (arith, h.1)))
@@ -62,8 +64,8 @@ module _ (table : List ℕ) (word at covered : ℕ) (so_far : (x : ℕ) → x < 
 pub minimal_left : (table : List ℕ) (word covered : ℕ) (xs : List ℕ) → length table ≤ 64 → covered < 2 ^ 64 → ((x : ℕ) → x < 64 → IsTrue (has covered x) ↔ IsCovered (length table) table word x)
     → xs ≡ members_below (length table) (bit_and word (bit_not w64 covered)) → AreMinimal table word xs
 minimal_left table word covered xs few fits covers e = record {
-  rising = subst (λ z. IsTrue (rise_from 0 z)) (sym e) (members_rise (length table) (bit_and word (bit_not w64 covered)));
-  members = λ x. (λ m. there x (member_has (length table) _ x (subst (λ z. IsMember x z) e m)), λ h. subst (λ z. IsMember x z) (sym e) (back x h));
+  rising = subst (λ z. IsTrue (rise_from 0 z)) (sym e) (numbers_rise (has (bit_and word (bit_not w64 covered))) (length table));
+  members = λ x. (λ m. there x (number_passes (has (bit_and word (bit_not w64 covered))) (length table) x (subst (λ z. IsMember x z) e m)), λ h. subst (λ z. IsMember x z) (sym e) (back x h));
 }
   where
     left_is : (x : ℕ) → x < length table → has (bit_and word (bit_not w64 covered)) x ≡ has word x && not (has covered x)
@@ -80,7 +82,7 @@ minimal_left table word covered xs few fits covers e = record {
         least off y i b (inr f) = let on : has covered x ≡ true = (covers x (omega arith)).1 (y, ltb-true _ _ i.0, i.1, f, b) in absurd (cc)
 
     back : (x : ℕ) → IsMinimal (is_below table) (IsIn table word) x → IsMember x (members_below (length table) (bit_and word (bit_not w64 covered)))
-    back x h = has_member (length table) _ x l (left_is x l ∙ both _ _ h.element.1 (true_not _ (off (has covered x) refl)))
+    back x h = passing_number (has (bit_and word (bit_not w64 covered))) (length table) x l (left_is x l ∙ both _ _ h.element.1 (true_not _ (off (has covered x) refl)))
       where
         l : x < length table
         l = ltb-true _ _ h.element.0

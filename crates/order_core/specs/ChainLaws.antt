@@ -1,7 +1,7 @@
 -- What holds of the ends of chains.
-use Rattle.std.specs.Prelude.{◌≡◌, ◌+◌, ℕ, zero, suc, Bool, IsTrue}
 use Rattle.std.proofs.Common.{subst, arith}
-use Rattle.order_core.specs.Chains.{IsMonotone, EndsChain, IsLeastEnd, IsSteady}
+use Rattle.std.specs.Prelude.{◌≡◌, ◌+◌, ℕ, zero, suc, Bool, IsTrue}
+use Rattle.order_core.specs.Chains.{IsMonotone, EndsChain, IsLeastEnd}
 use Rattle.order_core.specs.Order.{IsOrder}
 
 -- A least end that also ends a longer chain steps to itself.
@@ -14,10 +14,10 @@ pub chain_mapped : {A : Type 0} (is_state : A → Bool) (leq : A → A → Bool)
 chain_mapped is_state leq Step Other f zero s h = h
 chain_mapped is_state leq Step Other f (suc k) s h = (h.0, chain_mapped is_state leq Step Other f k h.0 h.1, h.2, f h.0 s h.3)
 
-none_more : (k : ℕ) → k ≡ zero + k
+pub none_more : (k : ℕ) → k ≡ zero + k
 none_more k = omega arith
 
-one_more : (more k : ℕ) → suc (more + k) ≡ suc more + k
+pub one_more : (more k : ℕ) → suc (more + k) ≡ suc more + k
 one_more more k = omega arith
 
 -- Where steps lead to states:
@@ -25,6 +25,14 @@ module _ {A : Type 0} (is_state : A → Bool) (leq : A → A → Bool) (Step : A
   pub ends_are_states : (k : ℕ) (s : A) → EndsChain is_state leq Step k s → IsTrue (is_state s)
   ends_are_states zero s h = h
   ends_are_states (suc k) s h = states h.0 s (ends_are_states k h.0 h.1) h.3
+
+  -- Where each step between states is one of another kind, so is each chain.
+  pub chain_between : (Other : A → A → Type 0) → ((x y : A) → IsTrue (is_state x) → IsTrue (is_state y) → Step x y → Other x y)
+      → (k : ℕ) (s : A) → EndsChain is_state leq Step k s → EndsChain is_state leq Other k s
+  chain_between Other f zero s h = h
+  chain_between Other f (suc k) s h =
+      let before = ends_are_states k h.0 h.1 in
+      (h.0, chain_between Other f k h.0 h.1, h.2, f h.0 s before (states h.0 s before h.3) h.3)
 
   -- A longer chain has no new end.
   pub ends_fall : (k : ℕ) (s : A) → EndsChain is_state leq Step (suc k) s → EndsChain is_state leq Step k s
@@ -58,17 +66,3 @@ module _ {A : Type 0} (is_state : A → Bool) (leq : A → A → Bool) (Step : A
   ends_rise (suc k) s t h v l =
       let first = ends_are_states is_state leq Step monotone.states k h.0 h.1 in
       (h.0, h.1, order.transitive h.0 s t first (monotone.states h.0 s first h.3) v h.2 l, monotone.upward h.0 s t first v l h.3)
-
-module _ {A : Type 0} (is_state : A → Bool) (leq : A → A → Bool) (Step : A → A → Type 0) where
-  -- Once steady, always steady.
-  pub steady_later : (more k : ℕ) → IsSteady is_state leq Step k → IsSteady is_state leq Step (more + k)
-  steady_later zero k steady = subst (λ (n : ℕ). IsSteady is_state leq Step n) (none_more k) steady
-  steady_later (suc more) k steady =
-      let before = steady_later more k steady in
-      subst (λ (n : ℕ). IsSteady is_state leq Step n) (one_more more k) (λ s h. (h.0, before h.0 h.1, h.2, h.3))
-
-  -- Once steady, all longer chains have the same ends.
-  pub steady_for_ever : (more k : ℕ) (s : A) → IsSteady is_state leq Step k → EndsChain is_state leq Step k s → EndsChain is_state leq Step (more + k) s
-  steady_for_ever zero k s steady h = subst (λ (n : ℕ). EndsChain is_state leq Step n s) (none_more k) h
-  steady_for_ever (suc more) k s steady h =
-      subst (λ (n : ℕ). EndsChain is_state leq Step n s) (one_more more k) (steady_later more k steady s (steady_for_ever more k s steady h))

@@ -1,10 +1,7 @@
 -- Numbers, by size.
-use Rattle.std.specs.Prelude.{◌≡◌, ◌+◌, ◌*◌, ℕ, Bool, true, false, cond, nat_le, nat_eq, min, max, IsTrue}
-use Rattle.order_core.specs.Order.{IsOrder}
-use Rattle.order_core.specs.declared.num.Num.{Num}
+use Rattle.std.specs.Prelude.{◌+◌, ◌*◌, ℕ, Bool, true, false, cond, nat_le, nat_eq, min, max}
 use Rattle.order_core.specs.declared.num.Num.TheVariants.{Count, Top}
-use Rattle.std.proofs.Common.{refl, arith, ap}
-use Rattle.std.proofs.lemmas.Bool.Decides.{nat_tests}
+use Rattle.order_core.specs.declared.num.Num.{Num}
 
 -- a count of at most ten to the nineteenth, or Top
 abbrev pub is_number : Num → Bool
@@ -43,24 +40,3 @@ number_product (Count a) (Count b) = count_or_top (a * b)
 number_product (Count a) Top = cond (nat_eq a 0) (Count 0) Top
 number_product Top (Count b) = cond (nat_eq b 0) (Count 0) Top
 number_product Top Top = Top
-
-pub number_laws : IsOrder is_number number_leq
-number_laws = record { reflexive = reflexive; transitive = transitive; antisymmetric = antisymmetric }
-  where
-    reflexive : (x : Num) → IsTrue (is_number x) → IsTrue (number_leq x x)
-    reflexive (Count a) h = grind (arith, nat_tests)
-    reflexive Top h = refl
-
-    transitive : (x y z : Num) → IsTrue (is_number x) → IsTrue (is_number y) → IsTrue (is_number z) → IsTrue (number_leq x y) → IsTrue (number_leq y z) → IsTrue (number_leq x z)
-    transitive (Count a) (Count b) (Count c) _ _ _ p q = grind (arith, nat_tests, p, q)
-    transitive (Count a) y Top _ _ _ p q = refl
-    transitive (Count a) Top (Count c) _ _ _ p q = absurd (cc)
-    transitive Top (Count b) z _ _ _ p q = absurd (cc)
-    transitive Top Top (Count c) _ _ _ p q = absurd (cc)
-    transitive Top Top Top _ _ _ p q = refl
-
-    antisymmetric : (x y : Num) → IsTrue (is_number x) → IsTrue (is_number y) → IsTrue (number_leq x y) → IsTrue (number_leq y x) → x ≡ y
-    antisymmetric (Count a) (Count b) _ _ p q = let same : a ≡ b = grind (arith, nat_tests, p, q) in ap Count same
-    antisymmetric (Count a) Top _ _ p q = absurd (cc)
-    antisymmetric Top (Count b) _ _ p q = absurd (cc)
-    antisymmetric Top Top _ _ p q = refl

@@ -1,12 +1,34 @@
 -- What is made of numbers is a number, and is the greater the greater they are.
-use Rattle.std.specs.Prelude.{◌≡◌, ◌≤◌, ◌+◌, ◌*◌, ℕ, Bool, true, false, cond, nat_le, nat_eq, IsTrue}
-use Rattle.std.proofs.Common.{refl, ap, subst, ◌∙◌, arith}
+use Rattle.std.proofs.Common.{refl, arith, ap, subst, ◌∙◌}
 use Rattle.std.proofs.Math.Nat.{mul-le-mul, mul_comm, zero-mul}
-use Rattle.std.proofs.lemmas.Bool.{cond-true, leb-true, eqb-true}
 use Rattle.std.proofs.lemmas.Bool.Decides.{nat_tests}
-use Rattle.order_core.specs.declared.num.Num.{Num}
-use Rattle.order_core.specs.declared.num.Num.TheVariants.{Count, Top}
+use Rattle.std.proofs.lemmas.Bool.{cond-true, leb-true, eqb-true}
+use Rattle.std.specs.Prelude.{◌≡◌, ◌+◌, ◌*◌, ℕ, Bool, true, false, cond, nat_le, nat_eq, IsTrue, ◌≤◌}
 use Rattle.order_core.specs.Num.{is_number, number_leq, greater_of, lesser_of, count_or_top, number_sum, number_product}
+use Rattle.order_core.specs.Order.{IsOrder}
+use Rattle.order_core.specs.declared.num.Num.TheVariants.{Count, Top}
+use Rattle.order_core.specs.declared.num.Num.{Num}
+
+pub number_laws : IsOrder is_number number_leq
+number_laws = record { reflexive = reflexive; transitive = transitive; antisymmetric = antisymmetric }
+  where
+    reflexive : (x : Num) → IsTrue (is_number x) → IsTrue (number_leq x x)
+    reflexive (Count a) h = grind (arith, nat_tests)
+    reflexive Top h = refl
+
+    transitive : (x y z : Num) → IsTrue (is_number x) → IsTrue (is_number y) → IsTrue (is_number z) → IsTrue (number_leq x y) → IsTrue (number_leq y z) → IsTrue (number_leq x z)
+    transitive (Count a) (Count b) (Count c) _ _ _ p q = grind (arith, nat_tests, p, q)
+    transitive (Count a) y Top _ _ _ p q = refl
+    transitive (Count a) Top (Count c) _ _ _ p q = absurd (cc)
+    transitive Top (Count b) z _ _ _ p q = absurd (cc)
+    transitive Top Top (Count c) _ _ _ p q = absurd (cc)
+    transitive Top Top Top _ _ _ p q = refl
+
+    antisymmetric : (x y : Num) → IsTrue (is_number x) → IsTrue (is_number y) → IsTrue (number_leq x y) → IsTrue (number_leq y x) → x ≡ y
+    antisymmetric (Count a) (Count b) _ _ p q = let same : a ≡ b = grind (arith, nat_tests, p, q) in ap Count same
+    antisymmetric (Count a) Top _ _ p q = absurd (cc)
+    antisymmetric Top (Count b) _ _ p q = absurd (cc)
+    antisymmetric Top Top _ _ p q = refl
 
 pub count_or_top_number : (n : ℕ) → IsTrue (is_number (count_or_top n))
 count_or_top_number n = go (nat_le n 10000000000000000000) refl

@@ -3,8 +3,9 @@ use Rattle.std.specs.Prelude.{◌≡◌, ◌+◌, ◌≤◌, ℕ, nat_le, IsTrue
 use Rattle.std.specs.List.{list_all}
 use Rattle.std.proofs.Common.{refl, sym, arith, inl, inr, subst}
 use Rattle.std.proofs.lemmas.Bool.Decides.{nat_tests}
-use Rattle.order_core.specs.Members.{IsMember, first, second, any_elim, any_intro, all_elim, all_intro}
-use Rattle.order_core.specs.Incomparable.{one_of}
+use Rattle.order_core.specs.Members.{IsMember}
+use Rattle.order_core.specs.MemberLaws.{first, second, any_elim, any_intro, all_elim, all_intro}
+use Rattle.order_core.specs.IncomparableLaws.{one_of}
 use Rattle.order_core.specs.Order.{IsOrder, are_incomparable}
 use Rattle.order_core.specs.Finite.{is_element, is_below}
 use Rattle.order_core.specs.Upper.{rise_from, is_upper, is_in, upper_leq}

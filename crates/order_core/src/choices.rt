@@ -30,7 +30,7 @@ impl<O: Order> Copier for O {
 }
 
 /// A copy of a tuple, part by part.
-#[tactic(auto, using(crate::specs::Partners::are_values_length))]
+#[tactic(auto, using(crate::specs::PartnerLaws::are_values_length))]
 pub fn copied<C: Copier>(
     alloc: Global,
     parts: &[C],

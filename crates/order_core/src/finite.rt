@@ -1,13 +1,17 @@
-ghost use Rattle.std.specs.Prelude.{◌≡◌, ◌≤◌, length, IsTrue, IfOk, slice_index};
+ghost use Rattle.std.specs.Prelude.{◌≡◌, ◌≤◌, ◌↔◌, ℕ, length, IsTrue, IfOk, slice_index};
 ghost use Rattle.std.specs.List.{list_all};
 ghost use Rattle.order_core.specs.Finite.{is_element, is_below, IsTable};
-ghost use Rattle.order_core.specs.MinimalElements.{AreMinimal};
+ghost use Rattle.order_core.specs.Members.{IsMember};
+ghost use Rattle.order_core.specs.Minimal.{IsMinimal};
+ghost use Rattle.order_core.specs.MinimalElements.{AreMinimal, minimal_of};
+ghost use Rattle.order_core.specs.Order.{IsLeast, AreBounds};
+ghost use Rattle.order_core.specs.Upper.{is_upper, rise_from, upper_leq};
 
 use crate::closing::{closure, first_mutual};
 use crate::list::List;
 use crate::minimal::minimal_elements;
 use crate::order::{NoMemory, Order};
-use crate::word::has;
+use crate::word::{has, word_of};
 use std::alloc::Global;
 
 /// A partial order on the numbers below 64 or fewer, its elements.
@@ -69,6 +73,19 @@ impl FiniteOrder {
         }
     }
 
+    /// The minimal ones of the elements, each once, in rising order: the upper set that they make.
+    pub fn minimal_of(&self, alloc: Global, elements: &[u32]) -> Result<List<u32>, NoMemory>
+        requires { IsTrue (list_all (is_element self.now.table) elements.now) }
+
+        ensures value { IfOk result (λ made. made ≡ minimal_of self.now.table elements.now) }
+        ensures members { IfOk result (λ made. (x : ℕ) → IsMember x made ↔ IsMinimal (is_below self.now.table) (λ y. IsMember y elements.now) x) }
+        ensures upper { IfOk result (λ made. IsTrue (is_upper self.now.table made)) }
+        // Each of the elements is in the upper set.
+        ensures reach { IfOk result (λ made. IsTrue (upper_leq self.now.table made elements.now)) }
+    {
+        self.minimal(alloc, word_of(elements))
+    }
+
     /// The elements that the element is at most, as a word.
     pub(crate) fn row(&self, element: u32) -> u64
         requires { IsTrue (is_element self.now.table element) }
@@ -104,11 +121,19 @@ impl Order for FiniteOrder {
         Ok(*a)
     }
 
-    fn least(&self, alloc: Global) -> Result<List<u32>, NoMemory> {
+    fn least(&self, alloc: Global) -> Result<List<u32>, NoMemory>
+        ensures least { IfOk result (IsLeast (is_element self.now.table) (is_below self.now.table)) }
+        ensures rising { IfOk result (λ made. IsTrue (rise_from 0 made)) }
+    {
         self.minimal(alloc, u64::MAX)
     }
 
-    fn bounds(&self, alloc: Global, a: &u32, b: &u32) -> Result<List<u32>, NoMemory> {
+    fn bounds(&self, alloc: Global, a: &u32, b: &u32) -> Result<List<u32>, NoMemory>
+        requires a_is_value { IsTrue (is_element self.now.table a.now) }
+        requires b_is_value { IsTrue (is_element self.now.table b.now) }
+        ensures bounds { IfOk result (AreBounds (is_element self.now.table) (is_below self.now.table) a.now b.now) }
+        ensures rising { IfOk result (λ made. IsTrue (rise_from 0 made)) }
+    {
         self.minimal(alloc, self.row(*a) & self.row(*b))
     }
 

@@ -22,6 +22,7 @@ pub use list::List;
 pub use num::{MAX_COUNT, Num, NumOrder};
 pub use num_laws::{
     number_operations_are_commutative, number_operations_are_monotone, numbers_make_numbers,
+    numbers_worked_out,
 };
 pub use order::{NoMemory, Order};
 pub use text::Text;

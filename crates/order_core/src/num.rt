@@ -1,14 +1,6 @@
 ghost use Rattle.std.specs.Prelude.{◌≡◌};
-ghost use Rattle.order_core.specs.Num.{
-  is_number,
-  number_leq,
-  number_laws,
-  greater_of,
-  lesser_of,
-  count_or_top,
-  number_sum,
-  number_product,
-};
+ghost use Rattle.order_core.specs.Num.{is_number, number_leq, greater_of, lesser_of, count_or_top, number_sum, number_product};
+ghost use Rattle.order_core.specs.NumLaws.{number_laws};
 
 use crate::list::List;
 use crate::order::{NoMemory, Order};

@@ -32,3 +32,15 @@ pub fn number_operations_are_commutative()
     ensures product { (x y : Num) → number_product x y ≡ number_product y x }
     ensures one { (x : Num) → IsTrue (is_number x) → number_product (Num.Count 1) x ≡ x }
 {}
+
+/// Sums, products and values between, worked out.
+pub fn numbers_worked_out()
+    ensures sum { number_sum (Num.Count 2) (Num.Count 3) ≡ Num.Count 5 }
+    ensures greatest_sum { number_sum (Num.Count 9999999999999999999) (Num.Count 1) ≡ Num.Count 10000000000000000000 }
+    ensures sum_above { number_sum (Num.Count 10000000000000000000) (Num.Count 1) ≡ Num.Top }
+    ensures product { number_product (Num.Count 6) (Num.Count 7) ≡ Num.Count 42 }
+    ensures product_above { number_product (Num.Count 4294967296) (Num.Count 4294967296) ≡ Num.Top }
+    ensures nothing { number_product (Num.Count 0) Num.Top ≡ Num.Count 0 }
+    ensures greater { greater_of (Num.Count 5) Num.Top ≡ Num.Top }
+    ensures lesser { lesser_of (Num.Count 5) Num.Top ≡ Num.Count 5 }
+{}

@@ -1,5 +1,7 @@
-ghost use Rattle.std.specs.Prelude.{◌≡◌, string_bytes};
+ghost use Rattle.std.specs.Prelude.{◌≡◌, IfOk, string_bytes};
 
+use crate::order::NoMemory;
+use std::alloc::Global;
 use std::marker::Model;
 
 /// A `String` that contracts see as the list of its bytes.
@@ -29,5 +31,15 @@ impl Text {
         ensures { result.now ≡ self.now }
     {
         self.text.as_str()
+    }
+
+    /// A text equal to this one.
+    pub fn copy(&self, alloc: Global) -> Result<Text, NoMemory>
+        ensures { IfOk result (λ made. made ≡ self.now) }
+    {
+        match String::from_str(alloc, self.as_str()) {
+            Ok(text) => Ok(Text { text }),
+            Err(_) => Err(NoMemory),
+        }
     }
 }

@@ -1,15 +1,7 @@
 ghost use Rattle.std.specs.Prelude.{◌≡◌, ◌++◌, ◌∷◌, [], map, IsTrue, IfOk};
 ghost use Rattle.std.specs.List.{list_all, flat_map};
-ghost use Rattle.order_core.specs.Tuple.{
-  are_values,
-  tuple_leq,
-  tuple_laws,
-  product,
-  with_each,
-  has_empty,
-  AreAllLeast,
-  AreAllBounds,
-};
+ghost use Rattle.order_core.specs.Tuple.{are_values, tuple_leq, product, with_each, has_empty, AreAllLeast, AreAllBounds};
+ghost use Rattle.order_core.specs.TupleLaws.{tuple_laws};
 
 use crate::choices::{copied, product_of};
 use crate::list::List;
@@ -29,7 +21,7 @@ impl<O: Order> Order for TupleOrder<O> {
 
     ghost leq = { λ o. tuple_leq (map O.leq o.parts) };
 
-    #[tactic(auto, using(crate::specs::Partners::are_values_unequal))]
+    #[tactic(auto, using(crate::specs::PartnerLaws::are_values_unequal))]
     fn is_value(&self, a: &List<O::Item>) -> bool {
         let items = a.items();
         let parts = self.parts.items();
@@ -44,7 +36,7 @@ impl<O: Order> Order for TupleOrder<O> {
         true
     }
 
-    #[tactic(auto, using(crate::specs::Partners::are_values_length))]
+    #[tactic(auto, using(crate::specs::PartnerLaws::are_values_length))]
     fn leq(&self, a: &List<O::Item>, b: &List<O::Item>) -> bool {
         let xs = a.items();
         let ys = b.items();
@@ -61,14 +53,14 @@ impl<O: Order> Order for TupleOrder<O> {
         Ok(List::of(copied(alloc, self.parts.items(), a.items())?))
     }
 
-    #[tactic(auto, using(crate::specs::Products::least_values, crate::specs::Products::product_least))]
+    #[tactic(auto, using(crate::specs::ProductLaws::least_values, crate::specs::ProductLaws::product_least))]
     fn least(&self, alloc: Global) -> Result<List<List<O::Item>>, NoMemory> {
         let parts = self.parts.items();
         let choices = least_of_each(alloc, parts)?;
         Ok(List::of(product_of(alloc, parts, choices.as_slice())?))
     }
 
-    #[tactic(auto, using(crate::specs::Products::bounds_values))]
+    #[tactic(auto, using(crate::specs::ProductLaws::bounds_values))]
     fn bounds(
         &self,
         alloc: Global,

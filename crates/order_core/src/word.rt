@@ -1,4 +1,5 @@
-ghost use Rattle.std.specs.Prelude.{◌≡◌, ◌<◌, ◌≤◌, IfOk};
+ghost use Rattle.std.specs.Prelude.{◌≡◌, ◌<◌, ◌≤◌, ℕ, IfOk, IsTrue, nat_eq, nat_lt};
+ghost use Rattle.std.specs.List.{list_all, list_any};
 ghost use Rattle.order_core.specs.Word.{has, members_below};
 
 use crate::list::List;
@@ -24,4 +25,16 @@ pub fn members_below(alloc: Global, n: u32, word: u64) -> Result<List<u32>, NoMe
         }
     }
     Ok(List::of(made))
+}
+
+/// The word that holds the numbers.
+pub fn word_of(numbers: &[u32]) -> u64
+    requires { IsTrue (list_all (λ x. nat_lt x 64) numbers.now) }
+    ensures { (x : ℕ) → has result x ≡ list_any (nat_eq x) numbers.now }
+{
+    let mut word = 0;
+    for number in numbers {
+        word |= 1 << *number;
+    }
+    word
 }

@@ -5,17 +5,19 @@ use Rattle.std.proofs.lemmas.List.Folds.{list_all-append}
 use Rattle.std.proofs.lemmas.List.Splits.{join_with_byte-slice_split}
 use Rattle.std.specs.List.{list_all, slice_split, join_with_byte, flat_map}
 use Rattle.std.specs.Option.{option_or}
-use Rattle.order_core.specs.Members.{first, second, both}
+use Rattle.order_core.specs.MemberLaws.{first, second, both}
 use Rattle.value_type.specs.declared.port.Port.{Port}
 use Rattle.value_type.specs.declared.value.Value.{Value}
 use Rattle.design_model.specs.declared.design.CatRow.{CatRow}
 use Rattle.design_model.specs.declared.design.Design.{Design}
 use Rattle.design_model.specs.declared.design.Design.TheVariants.{Cat}
 use Rattle.plain_form.specs.declared.rounding.Rounding.TheVariants.{Up}
-use Rattle.plain_form.specs.Maybe.{◌>>=◌, bind_some, cond_some}
+use Rattle.plain_form.specs.Maybe.{◌>>=◌}
+use Rattle.plain_form.specs.MaybeLaws.{bind_some, cond_some}
 use Rattle.plain_form.specs.Plain.{cells, type_text, are_some_distinct, port_names, row_names, means_ports, means_rows, means_catalogue, means, row_text, port_text, catalogue_text, Written, WrittenPort, WrittenRow, IsPlain, IsQuery}
 use Rattle.plain_form.specs.Reading.{cells_at, rows_at, port_parts, port_at, ports_at, inner_at, rows_after, requires_after, statements_at, catalogue_at, query_at}
-use Rattle.plain_form.specs.Texts.{after_text, before_text, before_some, before_append}
+use Rattle.plain_form.specs.Texts.{after_text, before_text}
+use Rattle.plain_form.specs.TextLaws.{before_some, before_append}
 use Rattle.plain_form.proofs.CellLaws.{cells_some, cells_back}
 use Rattle.plain_form.proofs.Cuts.{has_no}
 use Rattle.plain_form.proofs.RowLaws.{row_statement, rows_some, rows_back, rows_no, port_statement, ports_some, ports_back, ports_no, same_many}

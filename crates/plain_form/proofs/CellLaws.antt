@@ -3,7 +3,7 @@ use Rattle.std.proofs.Common.{◌≡◌, ◌∙◌, refl, sym, ap, subst, ℕ, �
 use Rattle.std.proofs.lemmas.List.Folds.{list_all-append}
 use Rattle.std.proofs.lemmas.List.Splits.{join_with_byte-slice_split}
 use Rattle.std.specs.List.{list_all, slice_split, join_with_byte}
-use Rattle.order_core.specs.Members.{first, second, both, append_nil}
+use Rattle.order_core.specs.MemberLaws.{first, second, both, append_nil}
 use Rattle.unit_core.specs.Measure.{one}
 use Rattle.unit_core.specs.Ratio.{Ratio}
 use Rattle.unit_core.specs.UnitTable.{unit_named}
@@ -13,7 +13,8 @@ use Rattle.value_type.specs.declared.port.PortUnit.{PortUnit, out-PortUnit}
 use Rattle.value_type.specs.declared.port.PortUnit.TheOpen.{PortUnit-F}
 use Rattle.value_type.specs.declared.value.Value.{Value}
 use Rattle.plain_form.specs.declared.rounding.Rounding.{Rounding}
-use Rattle.plain_form.specs.Maybe.{◌>>=◌, bind_some, when_some}
+use Rattle.plain_form.specs.Maybe.{◌>>=◌}
+use Rattle.plain_form.specs.MaybeLaws.{bind_some, when_some}
 use Rattle.plain_form.specs.Names.{is_digit, is_letter, is_name}
 use Rattle.plain_form.specs.Plain.{WrittenNumber, WrittenCell, number_text, spaced_unit, cell_text, cells, decimals_of, is_number, counts, count_of, over_num, over_den, means_number, means_amount, means_cell, means_cells}
 use Rattle.plain_form.specs.Reading.{number_at, units_at, amount_at, cell_at, each_cell, cells_at}

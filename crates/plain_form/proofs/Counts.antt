@@ -1,8 +1,10 @@
 -- A fraction that is there is rounded as the one in lowest terms is.
 use Rattle.std.proofs.Common.{◌≡◌, ◌∙◌, sym, ap, ℕ, cond, Some, None, Result, Ok, is_ok}
 use Rattle.unit_core.specs.declared.fault.FractionFault.{FractionFault}
-use Rattle.unit_core.specs.Ratio.{Ratio, quotient, quotient_ok}
-use Rattle.unit_core.specs.Rounding.{ceiling, floor, ceiling_lowest, floor_lowest}
+use Rattle.unit_core.specs.Ratio.{Ratio, quotient}
+use Rattle.unit_core.specs.RatioLaws.{quotient_ok}
+use Rattle.unit_core.specs.Rounding.{ceiling, floor}
+use Rattle.unit_core.specs.RoundingLaws.{ceiling_lowest, floor_lowest}
 use Rattle.value_type.specs.declared.value.Value.TheVariants as value
 use Rattle.plain_form.specs.declared.rounding.Rounding.{Rounding}
 use Rattle.plain_form.specs.declared.rounding.Rounding.TheVariants.{Up, Down}

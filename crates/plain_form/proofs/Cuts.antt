@@ -2,7 +2,7 @@
 use Rattle.std.proofs.Common.{◌≡◌, refl, ap, ℕ, zero, suc, ◌+◌, ◌<◌, Bool, true, false, ◌==◌, not, IsTrue, List, [], ◌∷◌, length, get_or, take, drop, cond, Some, None, arith, add-one}
 use Rattle.std.specs.List.{list_all}
 use Rattle.std.specs.Option.{option_map}
-use Rattle.order_core.specs.Members.{first, second}
+use Rattle.order_core.specs.MemberLaws.{first, second}
 use Rattle.plain_form.specs.Texts.{cut_at}
 
 -- no such byte is in the list

@@ -5,7 +5,7 @@ use Rattle.std.proofs.lemmas.Bool.Decides.{nat_tests}
 use Rattle.std.proofs.lemmas.List.{drop_more}
 use Rattle.std.proofs.lemmas.List.Sums.{fold_more}
 use Rattle.std.specs.List.{list_all}
-use Rattle.order_core.specs.Members.{first, second}
+use Rattle.order_core.specs.MemberLaws.{first, second}
 use Rattle.plain_form.specs.Names.{is_digit}
 
 -- With room for k + 1 further digits, there is room for k behind one more.

@@ -5,7 +5,7 @@ use Rattle.std.proofs.lemmas.Str.{IsUtf8-from_ascii}
 use Rattle.std.proofs.lemmas.Str.Ascii.{IsAscii-nil, IsAscii-cons}
 use Rattle.std.specs.List.{list_all}
 use Rattle.std.specs.Str.{IsAscii, IsUtf8}
-use Rattle.order_core.specs.Members.{first, second}
+use Rattle.order_core.specs.MemberLaws.{first, second}
 use Rattle.plain_form.specs.Names.{is_letter, is_digit, is_name, begins_name}
 
 abbrev pub is_name_byte : ℕ → Bool

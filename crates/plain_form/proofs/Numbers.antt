@@ -3,7 +3,7 @@ use Rattle.std.proofs.Common.{◌+◌, ◌≤◌, ◌==◌, not, nat_le, IsTrue,
 use Rattle.std.proofs.Math.ListN.{length-append}
 use Rattle.std.proofs.lemmas.List.Folds.{list_all-append}
 use Rattle.std.specs.List.{list_all}
-use Rattle.order_core.specs.Members.{first, second}
+use Rattle.order_core.specs.MemberLaws.{first, second}
 use Rattle.plain_form.specs.Names.{is_digit}
 use Rattle.plain_form.specs.Plain.{WrittenNumber, is_number, is_point, digits_of, decimals_of}
 

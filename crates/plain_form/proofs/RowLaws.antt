@@ -3,17 +3,20 @@ use Rattle.std.proofs.Common.{◌≡◌, ◌∙◌, refl, sym, ap, subst, ℕ, s
 use Rattle.std.proofs.lemmas.Bool.Decides.{nat_tests}
 use Rattle.std.specs.List.{list_all}
 use Rattle.std.specs.Str.{bytes_eq}
-use Rattle.order_core.specs.Members.{both}
+use Rattle.order_core.specs.MemberLaws.{both}
 use Rattle.unit_core.specs.UnitTable.{unit_named}
 use Rattle.value_type.specs.declared.port.Port.{Port}
 use Rattle.value_type.specs.declared.value.Value.{Value}
 use Rattle.design_model.specs.declared.design.CatRow.{CatRow}
 use Rattle.plain_form.specs.declared.rounding.Rounding.TheVariants.{Up, Down}
-use Rattle.plain_form.specs.Maybe.{◌>>=◌, bind_some, cond_some, when_some, when_back}
+use Rattle.plain_form.proofs.MaybeLemmas.{when_back}
+use Rattle.plain_form.specs.Maybe.{◌>>=◌}
+use Rattle.plain_form.specs.MaybeLaws.{bind_some, cond_some, when_some}
 use Rattle.plain_form.specs.Names.{is_name}
 use Rattle.plain_form.specs.Plain.{type_text, means_cells, means_type, means_port, means_ports, means_row, means_rows, WrittenPort, WrittenRow}
 use Rattle.plain_form.specs.Reading.{cells_at, row_parts, row_at, rows_at, port_parts, port_at, ports_at, unit_of}
-use Rattle.plain_form.specs.Texts.{after_text, before_text, cut_at, same_bytes, before_some, before_append}
+use Rattle.plain_form.specs.Texts.{after_text, before_text, cut_at}
+use Rattle.plain_form.specs.TextLaws.{same_bytes, before_some, before_append}
 use Rattle.plain_form.proofs.CellLaws.{spaced, cells_some, cells_back, cells_no, letters_no, name_no, no-append}
 use Rattle.plain_form.proofs.Cuts.{has_no}
 use Rattle.plain_form.proofs.NameTexts.{is_name_byte}

@@ -6,9 +6,10 @@ use Rattle.std.proofs.Math.Seq.{take-append_seam, drop-append_seam}
 use Rattle.std.specs.List.{list_all, slice_split, onto_first, join_with_byte}
 use Rattle.std.specs.Option.{option_map}
 use Rattle.std.specs.Str.{bytes_eq}
-use Rattle.order_core.specs.Members.{first, second, not_true}
-use Rattle.plain_form.specs.Maybe.{cond_some}
-use Rattle.plain_form.specs.Texts.{after_text, cut_at, same_bytes, bytes_same}
+use Rattle.order_core.specs.MemberLaws.{first, second, not_true}
+use Rattle.plain_form.specs.MaybeLaws.{cond_some}
+use Rattle.plain_form.specs.Texts.{after_text, cut_at}
+use Rattle.plain_form.specs.TextLaws.{same_bytes, bytes_same}
 use Rattle.plain_form.proofs.Cuts.{has_no}
 
 pub after_some : (text bytes rest : List ℕ) → after_text text bytes ≡ Some rest → bytes ≡ text ++ rest

@@ -7,7 +7,7 @@ use Rattle.unit_core.specs.Measure.{Measure}
 use Rattle.unit_core.specs.UnitTable.{Named, units, unit_named}
 use Rattle.plain_form.specs.Names.{is_letter}
 use Rattle.plain_form.proofs.NameTexts.{letters_ascii}
-use Rattle.plain_form.specs.Fitting.{found_passes}
+use Rattle.plain_form.specs.FittingLaws.{found_passes}
 
 all_letters : IsTrue (list_all (λ (entry : Named). list_all is_letter entry.name) units)
 unfolding units

@@ -4,6 +4,7 @@ use Rattle.std.specs.List.{list_all, list_any, flat_map}
 use Rattle.std.specs.Ordering.{int_eq}
 use Rattle.std.specs.Str.{bytes_eq}
 use Rattle.unit_core.specs.declared.dim.Dim.{Dim}
+use Rattle.unit_core.specs.Dimension.{same_dim}
 use Rattle.unit_core.specs.Measure.{one}
 use Rattle.unit_core.specs.Ratio.{Ratio, quotient}
 use Rattle.unit_core.specs.Rounding.{ceiling, floor}
@@ -136,10 +137,6 @@ count_of rounding a d = cond (is_ok (quotient a d)) (Some (value.Num (rounded ro
 -- the grid counts that a number of units of this size means, as a whole count
 abbrev pub means_number : Rounding → WrittenNumber → Ratio → Option Value
 means_number rounding n size = cond (is_number n) (count_of rounding (over_num n size) (over_den n size)) None
-
-abbrev pub same_dim : Dim → Dim → Bool
-same_dim a b =
-    int_eq a.mass b.mass && (int_eq a.length b.length && (int_eq a.time b.time && (int_eq a.current b.current && (int_eq a.money b.money && int_eq a.bits b.bits))))
 
 -- The type is of numbers that count units of this dimension.
 abbrev pub counts : Kind-F Kind → Dim → Bool

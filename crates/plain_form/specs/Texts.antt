@@ -1,12 +1,8 @@
 -- Parts of texts.
-use Rattle.std.specs.Prelude.{◌≡◌, ◌-◌, ◌==◌, ◌++◌, ℕ, IsTrue, cond, List, [], ◌∷◌, Option, Some, None, length, take, drop}
 use Rattle.std.specs.Option.{option_map}
+use Rattle.std.specs.Prelude.{◌-◌, ◌==◌, ℕ, cond, List, [], ◌∷◌, Option, Some, None, length, take, drop}
 use Rattle.std.specs.Str.{bytes_eq}
-use Rattle.std.proofs.Common.{refl, sym, ap, ◌∙◌, arith, eqb-true, eq-eqb}
-use Rattle.std.proofs.lemmas.List.{take-append-drop, length-append}
-use Rattle.std.proofs.Math.Seq.{take-append_seam, drop-append_seam}
-use Rattle.order_core.specs.Members.{first, second, both}
-use Rattle.plain_form.specs.Maybe.{cond_some}
+use Rattle.order_core.specs.MemberLaws.{first}
 
 -- what stands after the text, where the bytes begin with it
 abbrev pub after_text : List ℕ → List ℕ → Option (List ℕ)
@@ -20,29 +16,3 @@ before_text text bytes = cond (bytes_eq (drop (length bytes - length text) bytes
 abbrev pub cut_at : ℕ → List ℕ → Option (List ℕ × List ℕ)
 cut_at byte [] = None
 cut_at byte (x ∷ xs) = cond (x == byte) (Some ([], xs)) (option_map (λ parts. (x ∷ parts.0, parts.1)) (cut_at byte xs))
-
--- Two texts are the same where their bytes are.
-pub same_bytes : (xs ys : List ℕ) → IsTrue (bytes_eq xs ys) → xs ≡ ys
-same_bytes [] [] h = refl
-same_bytes [] (y ∷ ys) h = absurd (cc)
-same_bytes (x ∷ xs) [] h = absurd (cc)
-same_bytes (x ∷ xs) (y ∷ ys) h =
-    let heads : x ≡ y = eqb-true x y (first _ _ h) in
-    let tails : xs ≡ ys = same_bytes xs ys (second (x == y) _ h) in cc
-
-pub bytes_same : (xs : List ℕ) → IsTrue (bytes_eq xs xs)
-bytes_same [] = refl
-bytes_same (x ∷ xs) = both _ _ (eq-eqb x x refl) (bytes_same xs)
-
-pub before_some : (text bytes front : List ℕ) → before_text text bytes ≡ Some front → bytes ≡ front ++ text
-before_some text bytes front h =
-    let n = length bytes - length text in
-    let c = cond_some (bytes_eq (drop n bytes) text) (take n bytes) front h in
-    sym (take-append-drop n bytes) ∙ ap (λ back. take n bytes ++ back) (same_bytes _ _ c.0) ∙ ap (λ f. f ++ text) c.1
-
-length_front : (front text : List ℕ) → length (front ++ text) - length text ≡ length front
-length_front front text = omega (arith, length-append front text)
-
-pub before_append : (text front : List ℕ) → before_text text (front ++ text) ≡ Some front
-before_append text front =
-    rw (length_front front text, take-append_seam front text, drop-append_seam front text) (ap (λ b. cond b (Some front) None) (bytes_same text))

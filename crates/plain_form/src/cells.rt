@@ -3,7 +3,8 @@ ghost use Rattle.unit_core.specs.Measure.{measure};
 ghost use Rattle.unit_core.specs.UnitTable.{unit_named};
 ghost use Rattle.value_type.specs.declared.kind.Kind.{out-Kind};
 ghost use Rattle.value_type.specs.declared.port.PortUnit.{out-PortUnit};
-ghost use Rattle.plain_form.specs.Plain.{counts, same_dim};
+ghost use Rattle.plain_form.specs.Plain.{counts};
+ghost use Rattle.unit_core.specs.Dimension.{same_dim};
 ghost use Rattle.plain_form.specs.Reading.{Finds, Gives, amount_at, cell_at, cells_at, each_cell, units_at};
 
 use crate::bytes::{after, cut, pieces};

@@ -13,16 +13,6 @@ use std::alloc::Global;
 use unit_core::Dim;
 use value_type::{Kind, Port, PortUnit};
 
-/// The dimension of plain numbers.
-const NO_DIMENSION: Dim = Dim {
-    mass: 0,
-    length: 0,
-    time: 0,
-    current: 0,
-    money: 0,
-    bits: 0,
-};
-
 /// The bytes as a text.
 pub fn text_of(alloc: Global, bytes: &[u8]) -> Result<Text, ReadFault>
     requires { IsUtf8 bytes.now }
@@ -77,7 +67,7 @@ fn port_of_nat(alloc: Global, name: &[u8]) -> Result<Port, ReadFault>
 {
     Ok(Port {
         name: text_of(alloc, name)?,
-        kind: Kind::Num(NO_DIMENSION),
+        kind: Kind::Num(Dim::NONE),
         unit: PortUnit::Nat,
     })
 }

@@ -1,5 +1,4 @@
 use crate::fault::ReadFault;
-use crate::name::{is_name_text, is_recognised_name};
 use crate::read::{read_catalogue, read_query};
 use design_model::CatRow;
 use order_core::NoMemory;
@@ -11,14 +10,8 @@ use value_type::{Kind, Port, PortUnit, Value};
 
 const WORKED: &str = "catalogue { provides x [g]; requires y [g]; row a: 1.9 g -> 1.1 g; }";
 
-const MOTORS: &str =
-    "catalogue { provides lift [Nat]; requires mass [Nat]; requires cost [Nat]; row a: 100 -> 10, 5; row b: 120 -> 8, 7; row c: 200 -> 12, 7; }";
-
 const PAIRS: &str =
     "catalogue { provides x [g]; provides z [Nat]; requires y [s]; row a: 1 g, 2 -> 3 s; row b: 4 g, 5 -> 6 s; }";
-
-/// A name of 64 bytes.
-const LONG_NAME: &str = "a123456789b123456789c123456789d123456789e123456789f123456789g123";
 
 /// A port's type, a cell, and what it means where it is provided and where it is required.
 type CellCase = (&'static str, &'static str, Option<(u64, u64)>);
@@ -120,122 +113,6 @@ const RANGE: [CellCase; 6] = [
     ("s", "99999999999999.99999 h", None),
 ];
 
-/// Texts of PAIRS, and what is no part of the plain form in their place.
-const NO_PORTS: [(&str, &str); 24] = [
-    ("catalogue", "Catalogue"),
-    ("catalogue", " catalogue"),
-    ("catalogue {", "catalogue{"),
-    ("catalogue {", "catalogue  {"),
-    ("{ provides", "{provides"),
-    ("{ provides", "{  provides"),
-    ("{ provides", "{\tprovides"),
-    ("{ provides", "{\nprovides"),
-    ("provides x", "provide x"),
-    ("provides x", "providesx"),
-    ("provides x", "provides  x"),
-    ("provides x", "provides\tx"),
-    ("x [g]", "x[g]"),
-    ("x [g]", "x  [g]"),
-    ("x [g]", "x [g"),
-    ("x [g]", "x g]"),
-    ("x [g]", "x [g]]"),
-    ("x [g]", "x [g, g]"),
-    ("x [g];", "x [g] ;"),
-    ("x [g];", "x [g];;"),
-    ("x [g];", "x [g]"),
-    ("x [g]; ", "x [g];"),
-    (
-        "provides z [Nat]; requires y [s];",
-        "requires y [s]; provides z [Nat];",
-    ),
-    (
-        "requires y [s]; row a: 1 g, 2 -> 3 s;",
-        "row a: 1 g, 2 -> 3 s; requires y [s];",
-    ),
-];
-
-/// The same in rows.
-const NO_ROWS: [(&str, &str); 31] = [
-    ("row a", "row  a"),
-    ("row a", "rowa"),
-    ("row a", "Row a"),
-    ("row a:", "row a :"),
-    ("row a: ", "row a:"),
-    ("row a: ", "row a:  "),
-    ("row a: ", "row a "),
-    ("1 g, 2", "1 g"),
-    ("1 g, 2", "1 g, 2, 2"),
-    ("1 g, 2", "1 g, "),
-    ("1 g, 2", "1 g, 2, "),
-    ("1 g, 2", "2, 1 g"),
-    ("1 g, 2", "1 g,2"),
-    ("1 g, 2", "1 g , 2"),
-    ("1 g, 2", "1 g,  2"),
-    ("1 g, 2", "1 g 2"),
-    ("1 g, 2", "1 g; 2"),
-    ("2 -> 3", "2->3"),
-    ("2 -> 3", "2 ->3"),
-    ("2 -> 3", "2-> 3"),
-    ("2 -> 3", "2  -> 3"),
-    ("2 -> 3", "2 ->  3"),
-    ("2 -> 3", "2 - > 3"),
-    ("2 -> 3", "2 => 3"),
-    (" -> 3 s", ""),
-    ("3 s", ""),
-    ("3 s", "3 s, 4 s"),
-    ("3 s", "3 s -> 4 s"),
-    ("3 s;", "3 s ;"),
-    ("3 s; row b", "3 s;row b"),
-    ("3 s; row b", "3 s row b"),
-];
-
-/// The same at the end.
-const NO_ENDS: [(&str, &str); 10] = [
-    (" }", " }\n\n"),
-    (" }", " }\r\n"),
-    (" }", "\n}"),
-    (" }", "\n}\n"),
-    (" }", " }\n "),
-    (" }", " } "),
-    (" }", "  }"),
-    (" }", "}"),
-    (" }", " }}"),
-    ("; }", " }"),
-];
-
-/// Names.
-const NAMES: [&str; 10] = [
-    "w", "W", "_", "_9", "lift_2", "Row", "row_", "NAT", "nat", LONG_NAME,
-];
-
-/// What is no name.
-const NO_NAMES: [&str; 14] = [
-    "", "9", "9a", "a-b", "a.b", "a b", "a'", "a/", "a:", "é", "@", "[", "`", "{",
-];
-
-/// The words that are no names.
-const RESERVED: [&str; 19] = [
-    "poset",
-    "elements",
-    "interface",
-    "template",
-    "catalogue",
-    "choose",
-    "mcdp",
-    "provides",
-    "requires",
-    "row",
-    "table",
-    "instance",
-    "ignore",
-    "Nat",
-    "up",
-    "product",
-    "max",
-    "min",
-    "Top",
-];
-
 /// What writes no values of the provided ports of PAIRS.
 const NO_QUERIES: [&str; 19] = [
     "",
@@ -257,18 +134,6 @@ const NO_QUERIES: [&str; 19] = [
     "1 g; 2",
     "1 g, 20000000000000000000",
     "x: 1 g, z: 2",
-];
-
-/// What is no number.
-const NO_NUMBERS: [&str; 20] = [
-    "", " ", " 1", "1 ", "1.", ".5", ".", "1.5.2", "1..5", "10 .5", "10. 5", "-1", "+1", "-0",
-    "1e3", "0x1", "1_000", "1'000", "a", "١",
-];
-
-/// What is no number of units.
-const NO_AMOUNTS: [&str; 15] = [
-    "1g", "1  g", "1 g ", " 1 g", "1\tg", "1 \tg", "g", " g", "1. g", ".5 g", "-1 g", "1 kg/s",
-    "1 g g", "1 g 1", "1 [g]",
 ];
 
 fn dim([mass, length, time, current, money, bits]: [i8; 6]) -> Dim {
@@ -312,14 +177,6 @@ fn one_count(values: &[Value]) -> Option<u64> {
     match values {
         [Value::Num(count)] => Some(*count),
         _ => None,
-    }
-}
-
-fn is_plain(alloc: Global, bytes: &[u8]) -> Result<bool, NoMemory> {
-    match read_catalogue(alloc, bytes) {
-        Ok(_) => Ok(true),
-        Err(ReadFault::NotPlain) => Ok(false),
-        Err(ReadFault::Memory) => Err(NoMemory),
     }
 }
 
@@ -369,36 +226,16 @@ fn expect_row(
 fn reads_the_worked_row(rt: HostRuntime) -> Result<(), Fail> {
     let design = read_catalogue(rt.alloc(), WORKED.as_bytes())?;
     let gram = dim([1, 0, 0, 0, 0, 0]);
-    let [provided] = design.provides() else {
+    let [provided] = design.provided_ports() else {
         return Err(Fail::from("no provided port"));
     };
     assert_eq!(rt; parts(provided), Some(("x", gram, Some(("g", 1)))));
-    let [required] = design.requires_() else {
+    let [required] = design.required_ports() else {
         return Err(Fail::from("no required port"));
     };
     assert_eq!(rt; parts(required), Some(("y", gram, Some(("g", 1)))));
     expect_row(&rt, rt.alloc(), design.rows().get(0), "a", &[1], &[2])?;
     assert!(rt; design.rows().get(1).is_none());
-    Ok(())
-}
-
-#[test]
-fn reads_plain_numbers(rt: HostRuntime) -> Result<(), Fail> {
-    let design = read_catalogue(rt.alloc(), MOTORS.as_bytes())?;
-    let number = dim([0, 0, 0, 0, 0, 0]);
-    let [lift] = design.provides() else {
-        return Err(Fail::from("no provided port"));
-    };
-    assert_eq!(rt; parts(lift), Some(("lift", number, None)));
-    let [mass, cost] = design.requires_() else {
-        return Err(Fail::from("no two required ports"));
-    };
-    assert_eq!(rt; parts(mass), Some(("mass", number, None)));
-    assert_eq!(rt; parts(cost), Some(("cost", number, None)));
-    expect_row(&rt, rt.alloc(), design.rows().get(0), "a", &[100], &[10, 5])?;
-    expect_row(&rt, rt.alloc(), design.rows().get(1), "b", &[120], &[8, 7])?;
-    expect_row(&rt, rt.alloc(), design.rows().get(2), "c", &[200], &[12, 7])?;
-    assert!(rt; design.rows().get(3).is_none());
     Ok(())
 }
 
@@ -414,169 +251,10 @@ fn limits_numbers(rt: HostRuntime) -> Result<(), Fail> {
     expect_cells(&rt, rt.alloc(), &RANGE)
 }
 
-fn expect_no_cells(rt: &impl Abort, alloc: Global, port: &str, cells: &[&str]) -> Result<(), Fail> {
-    for cell in cells {
-        assert_eq!(rt; cell_counts(alloc, port, cell)?, None, "{cell} on [{port}]");
-    }
-    Ok(())
-}
-
-#[test]
-fn takes_only_written_numbers(rt: HostRuntime) -> Result<(), Fail> {
-    expect_no_cells(&rt, rt.alloc(), "Nat", &NO_NUMBERS)?;
-    expect_no_cells(&rt, rt.alloc(), "g", &NO_AMOUNTS)
-}
-
-/// Expects of each case that PAIRS with the second text in place of the first is plain or not.
-fn expect_edits(
-    rt: &impl Abort,
-    alloc: Global,
-    cases: &[(&str, &str)],
-    want: bool,
-) -> Result<(), Fail> {
-    for (old, new) in cases {
-        let text = PAIRS.replace(alloc, *old, new)?;
-        assert!(rt; text.as_str() != PAIRS, "{old} stands in the text");
-        assert_eq!(rt; is_plain(alloc, text.as_bytes())?, want, "{new} for {old}");
-    }
-    Ok(())
-}
-
-#[test]
-fn takes_only_the_written_form(rt: HostRuntime) -> Result<(), Fail> {
-    expect_edits(&rt, rt.alloc(), &NO_PORTS, false)?;
-    expect_edits(&rt, rt.alloc(), &NO_ROWS, false)?;
-    expect_edits(&rt, rt.alloc(), &NO_ENDS, false)?;
-    expect_edits(&rt, rt.alloc(), &[(" }", " }\n")], true)
-}
-
-#[test]
-fn wants_ports_and_rows(rt: HostRuntime) -> Result<(), Fail> {
-    let refused = [
-        ("provides x [g]; provides z [Nat]; ", ""),
-        ("requires y [s]; ", ""),
-        (" row a: 1 g, 2 -> 3 s; row b: 4 g, 5 -> 6 s;", ""),
-    ];
-    expect_edits(&rt, rt.alloc(), &refused, false)?;
-    for text in [
-        "",
-        "catalogue { }",
-        "catalogue {}",
-        "catalogue { requires y [Nat]; row a:  -> 1; }",
-        "catalogue { requires y [Nat]; row a: -> 1; }",
-        "catalogue { provides x [Nat]; row a: 1 -> ; }",
-        "catalogue { provides x [Nat]; row a: 1 ->; }",
-        "catalogue { provides x [Nat]; requires y [Nat]; }",
-        "catalogue { row a:  -> ; }",
-    ] {
-        assert!(rt; !is_plain(rt.alloc(), text.as_bytes())?, "{text}");
-    }
-    assert!(rt;
-        !is_plain(
-            rt.alloc(),
-            b"catalogue { provides \xff [Nat]; requires y [Nat]; row a: 1 -> 1; }"
-        )?
-    );
-    assert!(rt;
-        !is_plain(
-            rt.alloc(),
-            b"catalogue { provides x [\xff]; requires y [Nat]; row a: 1 -> 1; }"
-        )?
-    );
-    Ok(())
-}
-
-#[test]
-fn refuses_a_cut_file(rt: HostRuntime) -> Result<(), Fail> {
-    let bytes = PAIRS.as_bytes();
-    for len in 0..bytes.len() {
-        assert!(rt; !is_plain(rt.alloc(), &bytes[..len])?, "{len} bytes");
-    }
-    assert!(rt; is_plain(rt.alloc(), bytes)?);
-    Ok(())
-}
-
-#[test]
-fn wants_names_to_differ(rt: HostRuntime) -> Result<(), Fail> {
-    let taken = [
-        ("requires y", "requires x"),
-        ("row a", "row x"),
-        ("provides z", "provides X"),
-        ("row b: 4 g, 5 -> 6 s;", "row b: 1 g, 2 -> 3 s;"),
-    ];
-    expect_edits(&rt, rt.alloc(), &taken, true)?;
-    let refused = [("provides z", "provides x"), ("row b", "row a")];
-    expect_edits(&rt, rt.alloc(), &refused, false)?;
-    let thrice =
-        "catalogue { provides x [g]; requires y [s]; requires z [s]; requires w [s]; row a: 1 g -> 1 s, 2 s, 3 s; row b: 1 g -> 1 s, 2 s, 3 s; row c: 1 g -> 1 s, 2 s, 3 s; }";
-    assert!(rt; is_plain(rt.alloc(), thrice.as_bytes())?);
-    for (old, new) in [
-        ("requires w", "requires y"),
-        ("requires w", "requires z"),
-        ("row c", "row a"),
-        ("row c", "row b"),
-    ] {
-        let text = thrice.replace(rt.alloc(), old, new)?;
-        assert!(rt; !is_plain(rt.alloc(), text.as_bytes())?, "{new}");
-    }
-    Ok(())
-}
-
-/// Expects of a name that it is one, or that it is none, of a provided port, of a required port and of a row.
-fn expect_name(rt: &impl Abort, alloc: Global, name: &str, want: bool) -> Result<(), Fail> {
-    assert_eq!(rt; is_name_text(name.as_bytes()), want, "{name}");
-    let port = format!(in alloc; "provides {name}")?;
-    expect_edits(rt, alloc, &[("provides x", port.as_str())], want)?;
-    let port = format!(in alloc; "requires {name}")?;
-    expect_edits(rt, alloc, &[("requires y", port.as_str())], want)?;
-    let row = format!(in alloc; "row {name}")?;
-    expect_edits(rt, alloc, &[("row a", row.as_str())], want)
-}
-
-fn expect_names(rt: &impl Abort, alloc: Global, names: &[&str], want: bool) -> Result<(), Fail> {
-    for name in names {
-        expect_name(rt, alloc, name, want)?;
-    }
-    Ok(())
-}
-
-#[test]
-fn takes_names(rt: HostRuntime) -> Result<(), Fail> {
-    expect_names(&rt, rt.alloc(), &NAMES, true)?;
-    expect_names(&rt, rt.alloc(), &NO_NAMES, false)?;
-    expect_names(&rt, rt.alloc(), &RESERVED, false)?;
-    assert_eq!(rt; LONG_NAME.len(), 64);
-    let longer = format!(in rt.alloc(); "{LONG_NAME}4")?;
-    expect_name(&rt, rt.alloc(), &longer, false)
-}
-
-#[test]
-fn knows_the_files_that_are_read(rt: HostRuntime) {
-    for (name, want) in [
-        ("a.poset", true),
-        ("a.interface", true),
-        ("a.mcdp", true),
-        ("a.template", true),
-        ("a.csv", true),
-        ("a.txt", false),
-        ("a.CSV", false),
-        ("a", false),
-        ("csv", false),
-        (".csv", false),
-        ("a.csv.", false),
-        ("a.b.csv", false),
-        ("a.csv.csv", false),
-        ("9.csv", false),
-        ("row.csv", false),
-    ] {
-        assert_eq!(rt; is_recognised_name(name), want, "{name}");
-    }
-}
-
 #[test]
 fn rounds_queries_up(rt: HostRuntime) -> Result<(), Fail> {
     let worked = read_catalogue(rt.alloc(), WORKED.as_bytes())?;
-    let ports = worked.provides();
+    let ports = worked.provided_ports();
     assert!(rt; !ports.is_empty());
     for (text, count) in [
         ("0.5 g", 1),
@@ -599,14 +277,14 @@ fn rounds_queries_up(rt: HostRuntime) -> Result<(), Fail> {
 #[test]
 fn takes_only_written_queries(rt: HostRuntime) -> Result<(), Fail> {
     let pairs = read_catalogue(rt.alloc(), PAIRS.as_bytes())?;
-    assert!(rt; !pairs.provides().is_empty());
-    let values = read_query(rt.alloc(), pairs.provides(), "1.1 kg, 2.1")?;
+    assert!(rt; !pairs.provided_ports().is_empty());
+    let values = read_query(rt.alloc(), pairs.provided_ports(), "1.1 kg, 2.1")?;
     assert_eq!(rt;
         counts(rt.alloc(), values.values())?.as_slice(),
         [1_100, 3].as_slice()
     );
     for text in NO_QUERIES {
-        let fault = read_query(rt.alloc(), pairs.provides(), text).err();
+        let fault = read_query(rt.alloc(), pairs.provided_ports(), text).err();
         assert_eq!(rt; fault, Some(ReadFault::NotPlain), "{text}");
     }
     Ok(())

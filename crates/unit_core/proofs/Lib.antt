@@ -1,1 +1,4 @@
+pub mod Cancelling
 pub mod Exponents
+pub mod MeasureLemmas
+pub mod RatioLemmas

@@ -1,15 +1,13 @@
 -- Measures: a dimension, and a size in grid counts. Products, quotients and powers.
-use Rattle.std.specs.Prelude.{◌≡◌, ℕ, zero, suc, ℤ, pos, negsuc, cond, Result, Ok, Err}
+use Rattle.std.specs.Prelude.{ℕ, zero, suc, ℤ, pos, negsuc, cond, Result, Ok, Err}
+use Rattle.unit_core.specs.Dimension.{are_exponents, dim_over, dim_times}
+use Rattle.unit_core.specs.Ratio.{Ratio, ratio, over_ratio, times_ratio}
+use Rattle.unit_core.specs.Results.{and_then}
 use Rattle.unit_core.specs.declared.dim.Dim.{Dim}
 use Rattle.unit_core.specs.declared.fault.FractionFault.{FractionFault}
-use Rattle.unit_core.specs.declared.fault.UnitFault.{UnitFault}
 use Rattle.unit_core.specs.declared.fault.UnitFault.TheVariants.{Exponent, Range}
+use Rattle.unit_core.specs.declared.fault.UnitFault.{UnitFault}
 use Rattle.unit_core.specs.declared.unit.Unit.{Unit}
-use Rattle.unit_core.specs.Dimension.{are_exponents, dim_over, dim_times, is_exponent}
-use Rattle.unit_core.specs.Ratio.{Ratio, ratio, over_ratio, quotient, times_ratio}
-use Rattle.unit_core.specs.Gcd.{gcd, gcd_within}
-use Rattle.unit_core.specs.Results.{and_then}
-use Rattle.std.proofs.Common.{refl}
 
 pub record Measure : Type 0 where
   pub dim : Dim
@@ -49,27 +47,3 @@ steps step (suc n) u = and_then (steps step n) (step u)
 unfoldable pub power_measure : Measure → ℤ → Result Measure UnitFault
 power_measure u (pos n) = steps (λ v. times_measure v u) n one
 power_measure u (negsuc n) = steps (λ v. over_measure v u) (suc n) one
-
--- A step that gives 1 again leads nowhere else.
-steps_still : (step : Measure → Result Measure UnitFault) → step one ≡ Ok one → (n : ℕ) → steps step n one ≡ Ok one
-unfolding steps
-steps_still step h zero = refl
-steps_still step h (suc n) = rw h (steps_still step h n)
-
-pub power-one : (n : ℤ) → power_measure one n ≡ Ok one
-unfolding gcd gcd_within is_exponent over_measure over_ratio power_measure quotient times_measure times_ratio
-power-one (pos n) = steps_still (λ v. times_measure v one) refl n
-power-one (negsuc n) = steps_still (λ v. over_measure v one) refl (suc n)
-
-module _ (step : Measure → Result Measure UnitFault) (u : Measure) where
-  pub steps-end : (n : ℕ) → n ≡ 0 → steps step n u ≡ Ok u
-  unfolding steps
-  steps-end n h = rw h
-
-  pub steps-ok : (n k : ℕ) (v : Measure) → n ≡ suc k → Ok v ≡ step u → steps step n u ≡ steps step k v
-  unfolding steps
-  steps-ok n k v h e = rw (h, ← e)
-
-  pub steps-err : (n k : ℕ) (e : UnitFault) → n ≡ suc k → Err e ≡ step u → steps step n u ≡ Err e
-  unfolding steps
-  steps-err n k f h e = rw (h, ← e)

@@ -44,8 +44,18 @@ fn difference(a: i8, b: i8) -> Option<i8>
 }
 
 impl Dim {
-    /// The exponents of a product, or `None` where one is out of range.
-    pub(crate) fn times(self, other: Dim) -> Option<Dim>
+    /// The dimension of plain numbers.
+    pub const NONE: Dim = Dim {
+        mass: 0,
+        length: 0,
+        time: 0,
+        current: 0,
+        money: 0,
+        bits: 0,
+    };
+
+    /// The exponents of a product, or `None` where one is below -9 or above 9.
+    pub fn times(self, other: Dim) -> Option<Dim>
         ensures { result ≡ cond (are_exponents (dim_times self other)) (Some (dim_times self other)) None }
     {
         Some(Dim {
@@ -58,8 +68,8 @@ impl Dim {
         })
     }
 
-    /// The exponents of a quotient, or `None` where one is out of range.
-    pub(crate) fn over(self, other: Dim) -> Option<Dim>
+    /// The exponents of a quotient, or `None` where one is below -9 or above 9.
+    pub fn over(self, other: Dim) -> Option<Dim>
         ensures { result ≡ cond (are_exponents (dim_over self other)) (Some (dim_over self other)) None }
     {
         Some(Dim {

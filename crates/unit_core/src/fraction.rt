@@ -1,4 +1,4 @@
-ghost use Rattle.std.specs.Prelude.{◌≡◌, ◌<◌, ◌≤◌};
+ghost use Rattle.std.specs.Prelude.{◌≡◌, ◌<◌, ◌≤◌, ◌*◌, ◌/◌};
 ghost use Rattle.unit_core.specs.Gcd.{gcd};
 ghost use Rattle.unit_core.specs.Range.{greatest_part};
 
@@ -51,6 +51,32 @@ impl Fraction {
         })
     }
 
+    /// The quotient of two products, `a * b` over `c * d`, in lowest terms.
+    ///
+    /// It is exact for all factors, since common divisors go before anything is multiplied. `Zero` where `c` or `d`
+    /// is zero, otherwise `Range` where a part of it is above `MAX_PART`.
+    pub fn of_products(a: u128, b: u128, c: u128, d: u128) -> Result<Fraction, FractionFault>
+        ensures { map_ok ratio result ≡ quotient (a * b) (c * d) }
+    {
+        if c == 0 {
+            return Err(FractionFault::Zero);
+        }
+        if d == 0 {
+            return Err(FractionFault::Zero);
+        }
+        let first = cancelled(a, c);
+        let second = cancelled(first.0, d);
+        let third = cancelled(b, first.1);
+        let fourth = cancelled(third.0, second.1);
+        let Some(num) = second.0.checked_mul(fourth.0) else {
+            return Err(FractionFault::Range);
+        };
+        let Some(den) = third.1.checked_mul(fourth.1) else {
+            return Err(FractionFault::Range);
+        };
+        Fraction::new(num, den)
+    }
+
     /// The product, or `Range` where a part of it in lowest terms is above `MAX_PART`.
     #[tactic(auto, unfolding(crate::specs::Ratio::times_ratio))]
     pub fn times(self, other: Fraction) -> Result<Fraction, FractionFault>
@@ -90,4 +116,14 @@ impl Fraction {
     {
         self.num / self.den
     }
+}
+
+/// Both numbers divided by their greatest common divisor.
+fn cancelled(a: u128, b: u128) -> (u128, u128)
+    requires { 0 < b }
+    ensures upper { result.0 ≡ a / gcd a b }
+    ensures lower { result.1 ≡ b / gcd a b }
+{
+    let divisor = greatest_common_divisor(a, b);
+    (a / divisor, b / divisor)
 }

@@ -1,10 +1,13 @@
 //! What holds of the definitions. Each law is the promise of a function that does nothing.
-ghost use Rattle.std.specs.Prelude.{◌≡◌, ℕ, ℤ, pos, negsuc, ◌<◌, codes};
+ghost use Rattle.std.specs.Prelude.{◌≡◌, ℕ, ℤ, pos, negsuc, ◌<◌, ◌*◌, codes};
 ghost use Rattle.std.specs.Int.{IsGcd};
 ghost use Rattle.unit_core.specs.declared.fault.FractionFault.TheVariants.{Range, Zero};
+ghost use Rattle.unit_core.specs.declared.fraction.Fraction.{Fraction};
+ghost use Rattle.unit_core.specs.declared.unit.Unit.{Unit};
+ghost use Rattle.unit_core.specs.Fractions.{fraction_of};
 ghost use Rattle.unit_core.specs.Gcd.{gcd};
-ghost use Rattle.unit_core.specs.Measure.{one, power_measure};
-ghost use Rattle.unit_core.specs.Ratio.{IsInLowestTerms, Ratio, lowest, quotient};
+ghost use Rattle.unit_core.specs.Measure.{measure, one, power_measure};
+ghost use Rattle.unit_core.specs.Ratio.{IsInLowestTerms, Ratio, lowest, quotient, ratio};
 ghost use Rattle.unit_core.specs.Rounding.{IsRoundedDown, IsRoundedUp, ceiling, floor};
 ghost use Rattle.unit_core.specs.UnitTable.{unit_named};
 
@@ -17,6 +20,22 @@ pub fn gcd_is_greatest()
 pub fn lowest_is_in_lowest_terms()
     ensures is { (a b : ℕ) → 0 < b → IsInLowestTerms a b (lowest a b) }
     ensures only { (a b : ℕ) (r : Ratio) → 0 < b → IsInLowestTerms a b r → r ≡ lowest a b }
+{}
+
+/// Fractions of one ratio are one, so that what holds a fraction can be compared by equations.
+pub fn same_fraction()
+    ensures { (f g : Fraction) → ratio f ≡ ratio g → f ≡ g }
+{}
+
+/// Units of one measure are one.
+pub fn same_unit()
+    ensures { (u v : Unit) → measure u ≡ measure v → u ≡ v }
+{}
+
+/// A fraction is that of its own ratio, and of no other.
+pub fn fractions_are_their_ratios()
+    ensures again { (f : Fraction) → fraction_of (ratio f) ≡ Some f }
+    ensures only { (r : Ratio) (f : Fraction) → fraction_of r ≡ Some f → ratio f ≡ r }
 {}
 
 /// `ceiling` rounds up and `floor` rounds down.
@@ -39,6 +58,8 @@ pub fn quotients_worked_out()
     ensures no_divisor { quotient 1 0 ≡ Err Zero }
     ensures greatest { quotient 20000000000000000000 2 ≡ Ok (record { num = 10000000000000000000; den = 1 }) }
     ensures above { quotient 10000000000000000001 1 ≡ Err Range }
+    // The products pass 128 bits.
+    ensures long { quotient (50000000000000000000 * 10000000000000000000) (50000000000000000000 * 1) ≡ Ok (record { num = 10000000000000000000; den = 1 }) }
     ensures finest { quotient 1 10000000000000000001 ≡ Err Range }
 {}
 

@@ -1,41 +1,62 @@
 ghost use Rattle.std.specs.Prelude.{◌≡◌};
 
 use crate::dim::Dim;
-use crate::unit::{NONE, Unit};
+use crate::unit::Unit;
 
-const MASS: Dim = Dim { mass: 1, ..NONE };
+const MASS: Dim = Dim {
+    mass: 1,
+    ..Dim::NONE
+};
 
-const LENGTH: Dim = Dim { length: 1, ..NONE };
+const LENGTH: Dim = Dim {
+    length: 1,
+    ..Dim::NONE
+};
 
-const TIME: Dim = Dim { time: 1, ..NONE };
+const TIME: Dim = Dim {
+    time: 1,
+    ..Dim::NONE
+};
 
-const CURRENT: Dim = Dim { current: 1, ..NONE };
+const CURRENT: Dim = Dim {
+    current: 1,
+    ..Dim::NONE
+};
 
-const MONEY: Dim = Dim { money: 1, ..NONE };
+const MONEY: Dim = Dim {
+    money: 1,
+    ..Dim::NONE
+};
 
-const BITS: Dim = Dim { bits: 1, ..NONE };
+const BITS: Dim = Dim {
+    bits: 1,
+    ..Dim::NONE
+};
 
-const FREQUENCY: Dim = Dim { time: -1, ..NONE };
+const FREQUENCY: Dim = Dim {
+    time: -1,
+    ..Dim::NONE
+};
 
 const FORCE: Dim = Dim {
     mass: 1,
     length: 1,
     time: -2,
-    ..NONE
+    ..Dim::NONE
 };
 
 const ENERGY: Dim = Dim {
     mass: 1,
     length: 2,
     time: -2,
-    ..NONE
+    ..Dim::NONE
 };
 
 const POWER: Dim = Dim {
     mass: 1,
     length: 2,
     time: -3,
-    ..NONE
+    ..Dim::NONE
 };
 
 const VOLTAGE: Dim = Dim {
@@ -43,13 +64,13 @@ const VOLTAGE: Dim = Dim {
     length: 2,
     time: -3,
     current: -1,
-    ..NONE
+    ..Dim::NONE
 };
 
 const CHARGE: Dim = Dim {
     current: 1,
     time: 1,
-    ..NONE
+    ..Dim::NONE
 };
 
 impl Unit {

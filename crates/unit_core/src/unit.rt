@@ -5,15 +5,6 @@ use crate::dim::Dim;
 use crate::fault::UnitFault;
 use crate::fraction::Fraction;
 
-pub(crate) const NONE: Dim = Dim {
-    mass: 0,
-    length: 0,
-    time: 0,
-    current: 0,
-    money: 0,
-    bits: 0,
-};
-
 /// A unit of measure: a dimension, and a size above zero in the grid's units g, mm, s, mA, cent and bit.
 #[derive(Clone, Copy, Debug, PartialEq, Eq)]
 pub struct Unit {
@@ -25,6 +16,13 @@ pub struct Unit {
 impl Unit {
     ghost use Rattle.unit_core.specs.Measure.{measure, one, over_measure, power_measure, steps, times_measure};
     ghost use Rattle.unit_core.specs.Results.{map_ok};
+
+    /// The unit 1: no dimension, and the size 1.
+    pub fn one() -> Unit
+        ensures { measure result ≡ one }
+    {
+        Unit::whole(Dim::NONE, 1)
+    }
 
     /// The product.
     ///
@@ -81,14 +79,14 @@ impl Unit {
     fn is_one(self) -> bool
         ensures { IsTrue result ↔ measure self ≡ one }
     {
-        self.dim == NONE && (self.size.num == 1 && self.size.den == 1)
+        self.dim == Dim::NONE && (self.size.num == 1 && self.size.den == 1)
     }
 
     /// 1 multiplied by the unit, one step at a time.
     fn multiplied(self, count: u32) -> Result<Unit, UnitFault>
         ensures { map_ok measure result ≡ steps (λ v. times_measure v (measure self)) count one }
     {
-        let mut made = Unit::whole(NONE, 1);
+        let mut made = Unit::one();
         for _step in 0..count {
             match made.times(self) {
                 Ok(next) => made = next,
@@ -102,7 +100,7 @@ impl Unit {
     fn divided(self, count: u32) -> Result<Unit, UnitFault>
         ensures { map_ok measure result ≡ steps (λ v. over_measure v (measure self)) count one }
     {
-        let mut made = Unit::whole(NONE, 1);
+        let mut made = Unit::one();
         for _step in 0..count {
             match made.over(self) {
                 Ok(next) => made = next,

@@ -1,0 +1,2 @@
+pub mod KindBoundLemmas
+pub mod PortKindLemmas

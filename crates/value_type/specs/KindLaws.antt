@@ -19,6 +19,7 @@ use Rattle.value_type.specs.declared.value.Value.{Value, out-Value, roll-Value, 
 use Rattle.value_type.specs.declared.value.Value.TheOpen.{Value-F}
 use Rattle.value_type.specs.declared.value.Value.TheVariants as value
 use Rattle.value_type.specs.Fits.{Layer, fits, is_number, is_element, is_upper, is_tuple}
+use Rattle.value_type.specs.Forms.{number_value}
 use Rattle.value_type.specs.Leq.{leq, number_leq, element_leq, set_leq, parts_leq}
 
 pub fits-Num : (t : Types) (dim : Dim) (v : Value) → fits t (kind.Num dim) v ≡ is_number (out-Value v)
@@ -48,11 +49,6 @@ leq-Up t k v w = rw (fold_out-Kind, outs-Up) refl
 -- Two values are the same where their layers are.
 pub out_same : (v w : Value) → out-Value v ≡ out-Value w → v ≡ w
 out_same v w e = sym (roll-out-Value v) ∙ (ap roll-Value e ∙ roll-out-Value w)
-
--- a number as a value
-abbrev pub number_value : Number → Value
-number_value (number.Count n) = value.Num n
-number_value number.Top = value.Top
 
 module _ (t : Types) (dim : Dim) where
   number_layer : (l : Layer) → IsTrue (is_number l) → (n : Number) × (l ≡ out-Value (number_value n))

@@ -1,26 +1,7 @@
 -- The types of ports.
-use Rattle.std.specs.Prelude.{◌≡◌, ◌≢◌, false, IsTrue, List, length, map}
-use Rattle.std.proofs.Common.{sym, ◌∙◌}
-use Rattle.std.proofs.lemmas.List.{length-map}
-use Rattle.order_core.specs.Partners.{are_values_length, are_values_unequal, unequal_lower, unequal_upper}
+use Rattle.std.specs.Prelude.{List, map}
 use Rattle.value_type.specs.declared.kind.Kind.{Kind}
 use Rattle.value_type.specs.declared.port.Port.{Port}
-use Rattle.value_type.specs.declared.poset.Types.{Types}
-use Rattle.value_type.specs.declared.value.Value.{Value}
-use Rattle.value_type.specs.Fits.{fits, row_fits}
-use Rattle.value_type.specs.Leq.{leq, row_leq}
 
 abbrev pub port_kinds : List Port → List Kind
 port_kinds ports = map (λ port. port.kind) ports
-
-pub fits_unequal : (t : Types) (ports : List Port) (values : List Value) → length ports ≢ length values → row_fits t (port_kinds ports) values ≡ false
-fits_unequal t ports values h = are_values_unequal (fits t) (port_kinds ports) values (λ e. h (sym (length-map ports (λ port. port.kind)) ∙ e))
-
-pub fits_length : (t : Types) (ports : List Port) (values : List Value) → IsTrue (row_fits t (port_kinds ports) values) → length ports ≡ length values
-fits_length t ports values h = sym (length-map ports (λ port. port.kind)) ∙ are_values_length (fits t) (port_kinds ports) values h
-
-pub lower_unequal : (t : Types) (ports : List Port) (xs ys : List Value) → length ports ≢ length xs → row_leq t (port_kinds ports) xs ys ≡ false
-lower_unequal t ports xs ys h = unequal_lower (leq t) (port_kinds ports) xs ys (λ e. h (sym (length-map ports (λ port. port.kind)) ∙ e))
-
-pub upper_unequal : (t : Types) (ports : List Port) (xs ys : List Value) → length ports ≢ length ys → row_leq t (port_kinds ports) xs ys ≡ false
-upper_unequal t ports xs ys h = unequal_upper (leq t) (port_kinds ports) xs ys (λ e. h (sym (length-map ports (λ port. port.kind)) ∙ e))

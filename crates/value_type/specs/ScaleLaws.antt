@@ -8,7 +8,8 @@ use Rattle.order_core.specs.declared.num.Num.TheVariants.{Count, Top}
 use Rattle.order_core.specs.Num.{is_number, number_leq, count_or_top}
 use Rattle.order_core.specs.NumLaws.{count_or_top_number, count_or_top_monotone, leq_top}
 use Rattle.unit_core.specs.Ratio.{Ratio}
-use Rattle.unit_core.specs.Rounding.{ceiling, ceiling_is}
+use Rattle.unit_core.specs.Rounding.{ceiling}
+use Rattle.unit_core.specs.RoundingLaws.{ceiling_is}
 use Rattle.value_type.specs.Scale.{scaled}
 
 pub scaled_number : (by : Ratio) (x : Num) → IsTrue (is_number (scaled by x))

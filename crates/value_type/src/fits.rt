@@ -27,7 +27,7 @@ pub fn fits(types: &Types, kind: &Kind, value: &Value) -> bool
 
 /// Whether there is one value for each type, and is one of it.
 #[cycle(fits)]
-#[tactic(auto, using(order_core::specs::Partners::are_values_unequal))]
+#[tactic(auto, using(order_core::specs::PartnerLaws::are_values_unequal))]
 pub fn fits_all(types: &Types, kinds: &[Kind], values: &[Value]) -> bool
     ensures { result ≡ spec.row_fits types.now kinds.now values.now }
 {

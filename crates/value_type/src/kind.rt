@@ -1,6 +1,7 @@
-ghost use Rattle.std.specs.Prelude.{◌≡◌, true, IfOk};
+ghost use Rattle.std.specs.Prelude.{◌≡◌, ◌↔◌, IsTrue, true, IfOk};
 
-use crate::copy::{copy_kind, copy_value};
+use crate::copy::{copy_all_kinds, copy_kind, copy_value};
+use crate::same::same_kind;
 use crate::value::Value;
 use order_core::{Copier, List, NoMemory};
 use std::alloc::Global;
@@ -26,6 +27,20 @@ impl Kind {
     {
         copy_kind(alloc, self)
     }
+
+    /// Whether both types are the same.
+    pub fn is_same(&self, other: &Kind) -> bool
+        ensures { IsTrue result ↔ (self.now ≡ other.now) }
+    {
+        same_kind(self, other)
+    }
+}
+
+/// Types equal to these, in order.
+pub fn copy_kinds(alloc: Global, kinds: &[Kind]) -> Result<List<Kind>, NoMemory>
+    ensures { IfOk result (λ made. made ≡ kinds.now) }
+{
+    Ok(List::of(copy_all_kinds(alloc, kinds)?))
 }
 
 impl Copier for Kind {

@@ -11,26 +11,22 @@ use order_core::UpperOrder;
 
 /// Whether `a` is at most `b` as values of this type.
 #[cycle(leq)]
+#[inline(always)]
 pub fn leq(types: &Types, kind: &Kind, a: &Value, b: &Value) -> bool
     ensures { result ≡ spec.leq types.now kind.now a.now b.now }
 {
     match kind {
         Kind::Num(_) => number_leq(a, b),
         Kind::Fin(k) => element_leq(types.posets.get(*k as usize), a, b),
-        Kind::Prod(kinds) => match a {
-            Value::Tup(xs) => match b {
-                Value::Tup(ys) => leq_all(types, kinds.items(), xs.items(), ys.items()),
-                _ => false,
-            },
-            _ => false,
-        },
+        Kind::Prod(kinds) => parts_leq(types, kinds.items(), a, b),
         Kind::Up(k) => set_leq(types.posets.get(*k as usize), a, b),
     }
 }
 
 /// Whether there are two values for each type, and each of the first is at most its partner.
 #[cycle(leq)]
-#[tactic(auto, using(order_core::specs::Partners::unequal_lower, order_core::specs::Partners::unequal_upper))]
+#[inline(always)]
+#[tactic(auto, using(order_core::specs::PartnerLaws::unequal_lower, order_core::specs::PartnerLaws::unequal_upper))]
 pub fn leq_all(types: &Types, kinds: &[Kind], xs: &[Value], ys: &[Value]) -> bool
     ensures { result ≡ spec.row_leq types.now kinds.now xs.now ys.now }
 {
@@ -48,6 +44,22 @@ pub fn leq_all(types: &Types, kinds: &[Kind], xs: &[Value], ys: &[Value]) -> boo
     true
 }
 
+/// Whether both are tuples of values of these types, and each of the first is at most its partner.
+#[cycle(leq)]
+#[inline(never)]
+fn parts_leq(types: &Types, kinds: &[Kind], a: &Value, b: &Value) -> bool
+    ensures { result ≡ spec.parts_leq (map (spec.leq types.now) kinds.now) (out-Value a.now) (out-Value b.now) }
+{
+    match a {
+        Value::Tup(xs) => match b {
+            Value::Tup(ys) => leq_all(types, kinds, xs.items(), ys.items()),
+            _ => false,
+        },
+        _ => false,
+    }
+}
+
+#[inline(always)]
 fn number_leq(a: &Value, b: &Value) -> bool
     ensures { result ≡ spec.number_leq (out-Value a.now) (out-Value b.now) }
 {
@@ -65,6 +77,7 @@ fn number_leq(a: &Value, b: &Value) -> bool
     }
 }
 
+#[inline(never)]
 fn element_leq(poset: Option<&Poset>, a: &Value, b: &Value) -> bool
     ensures { result ≡ spec.element_leq (option_copied poset.entry) (out-Value a.now) (out-Value b.now) }
 {
@@ -80,6 +93,7 @@ fn element_leq(poset: Option<&Poset>, a: &Value, b: &Value) -> bool
     }
 }
 
+#[inline(never)]
 fn set_leq(poset: Option<&Poset>, a: &Value, b: &Value) -> bool
     ensures { result ≡ spec.set_leq (option_copied poset.entry) (out-Value a.now) (out-Value b.now) }
 {

@@ -3,6 +3,7 @@ ghost use Rattle.value_type.specs.Fits.{row_fits};
 ghost use Rattle.value_type.specs.PortKinds.{port_kinds};
 ghost use Rattle.value_type.specs.Leq.{row_leq};
 
+use crate::copy::copy_unit;
 use crate::kind::Kind;
 use crate::poset::Types;
 use crate::value::Value;
@@ -22,6 +23,15 @@ pub enum PortUnit {
     Parts(List<PortUnit>),
 }
 
+impl PortUnit {
+    /// A unit equal to this one.
+    pub fn copy(&self, alloc: Global) -> Result<PortUnit, NoMemory>
+        ensures { IfOk result (λ made. made ≡ self.now) }
+    {
+        copy_unit(alloc, self)
+    }
+}
+
 /// A port of a design: what it provides or requires.
 ///
 /// It is whole where its unit has the form of its type.
@@ -30,6 +40,33 @@ pub struct Port {
     pub name: Text,
     pub kind: Kind,
     pub unit: PortUnit,
+}
+
+impl Port {
+    /// A port equal to this one.
+    pub fn copy(&self, alloc: Global) -> Result<Port, NoMemory>
+        ensures { IfOk result (λ made. made ≡ self.now) }
+    {
+        Ok(Port {
+            name: self.name.copy(alloc)?,
+            kind: self.kind.copy(alloc)?,
+            unit: self.unit.copy(alloc)?,
+        })
+    }
+}
+
+/// Ports equal to these, in order.
+pub fn copy_ports(alloc: Global, ports: &[Port]) -> Result<List<Port>, NoMemory>
+    ensures { IfOk result (λ made. made ≡ ports.now) }
+{
+    let mut made = Vec::new(alloc);
+    for port in ports {
+        let copy = port.copy(alloc)?;
+        if made.push(copy).is_err() {
+            return Err(NoMemory);
+        }
+    }
+    Ok(List::of(made))
 }
 
 /// The types of the ports, in order.

@@ -38,6 +38,7 @@ impl Row {
     }
 
     /// The values, in order.
+    #[inline(always)]
     pub fn values(&self) -> &[Value]
         ensures { result.now ≡ self.now }
     {

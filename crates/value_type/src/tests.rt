@@ -1,16 +1,11 @@
-mod comparing;
-mod copying;
-mod fitting;
-mod joining;
-mod ports;
-mod printing;
-mod scaling;
-
-use crate::{Kind, Poset, Types, Value, print_order};
-use order_core::{FiniteOrder, List, Text};
+use crate::{
+    Kind, Port, PortUnit, Poset, Row, RowOrder, RowOrderRef, Types, Value, ValueOrder, copy_kinds,
+    copy_ports, kinds_of, print_order, print_order_rows,
+};
+use order_core::{FiniteOrder, List, NoMemory, Order, Text};
 use std::alloc::{AllocError, Global};
 use std::cmp::Ordering;
-use std::process::Abort;
+use std::slice;
 use std::test::Fail;
 use unit_core::Dim;
 
@@ -24,9 +19,6 @@ const NUMBERS: Kind = Kind::Num(Dim {
     bits: 0,
 });
 
-/// The greatest count.
-const MAX: u64 = 10_000_000_000_000_000_000;
-
 fn text(alloc: Global, text: &str) -> Result<Text, AllocError> {
     Ok(Text::of(String::from_str(alloc, text)?))
 }
@@ -34,15 +26,9 @@ fn text(alloc: Global, text: &str) -> Result<Text, AllocError> {
 /// One poset: the elements 0 and 1, which aren't compared, and 2 and 3 above both, which aren't either.
 fn crossed(alloc: Global) -> Result<Types, Fail> {
     let order = FiniteOrder::close(alloc, 4, &[(0, 2), (0, 3), (1, 2), (1, 3)])?;
-    let elements = List::of(vec![in alloc;
-        text(alloc, "a")?,
-        text(alloc, "b")?,
-        text(alloc, "c")?,
-        text(alloc, "d")?,
-    ]?);
     let poset = Poset {
         name: text(alloc, "crossed")?,
-        elements,
+        elements: List::of(Vec::new(alloc)),
         order,
     };
     Ok(Types {
@@ -50,63 +36,273 @@ fn crossed(alloc: Global) -> Result<Types, Fail> {
     })
 }
 
-/// How a value is written in these tests.
-#[derive(Clone, Copy)]
-enum Written<'a> {
-    Num(u64),
-    Top,
-    El(u32),
-    /// A tuple of counts.
-    Counts(&'a [u64]),
-    Up(&'a [u32]),
+/// The types of tuples of an element and a number, of upper sets and of elements.
+fn kinds(alloc: Global) -> Result<List<Kind>, AllocError> {
+    let pair = List::of(vec![in alloc; Kind::Fin(0), NUMBERS]?);
+    Ok(List::of(vec![in alloc; Kind::Prod(pair), Kind::Up(0), Kind::Fin(0)]?))
 }
 
-fn value(alloc: Global, written: Written) -> Result<Value, AllocError> {
-    match written {
-        Written::Num(count) => Ok(Value::Num(count)),
-        Written::Top => Ok(Value::Top),
-        Written::El(element) => Ok(Value::El(element)),
-        Written::Counts(counts) => counts_tuple(alloc, counts),
-        Written::Up(members) => upper(alloc, members),
-    }
-}
-
-fn values(alloc: Global, written: &[Written]) -> Result<Vec<Value>, AllocError> {
-    let mut values = Vec::new(alloc);
-    for one in written {
-        values.push(value(alloc, *one)?)?;
-    }
-    Ok(values)
-}
-
-fn counts_tuple(alloc: Global, counts: &[u64]) -> Result<Value, AllocError> {
-    let mut values = Vec::new(alloc);
-    for count in counts {
-        values.push(Value::Num(*count))?;
-    }
-    Ok(Value::Tup(List::of(values)))
+fn pair(alloc: Global, element: u32, count: u64) -> Result<Value, AllocError> {
+    Ok(Value::Tup(List::of(vec![in alloc; Value::El(element), Value::Num(count)]?)))
 }
 
 fn upper(alloc: Global, members: &[u32]) -> Result<Value, AllocError> {
     Ok(Value::Up(List::of(Vec::from_slice(alloc, members)?)))
 }
 
-fn pair(alloc: Global, first: Value, second: Value) -> Result<Value, AllocError> {
-    Ok(Value::Tup(List::of(vec![in alloc; first, second]?)))
+/// A row of these types, as it is written in these tests.
+type Written<'a> = (u32, u64, &'a [u32], u32);
+
+fn values(alloc: Global, written: &Written) -> Result<Vec<Value>, AllocError> {
+    let (first, count, members, second) = *written;
+    let pair = pair(alloc, first, count)?;
+    Ok(vec![in alloc; pair, upper(alloc, members)?, Value::El(second)]?)
 }
 
-fn pair_kind(alloc: Global, first: Kind, second: Kind) -> Result<Kind, AllocError> {
-    Ok(Kind::Prod(List::of(vec![in alloc; first, second]?)))
-}
-
-/// The values are the same, in the same order.
-fn expect_values(rt: &impl Abort, values: &[Value], want: &[Value]) {
-    assert_eq!(rt; values.len(), want.len());
-    for (value, want) in values.iter().zip(want.iter()) {
-        assert_eq!(rt;
-            print_order(value, want),
-            Ordering::Equal,
-            "{value:?} for {want:?}"
-        );
+fn row(alloc: Global, written: &Written) -> Result<Row, NoMemory> {
+    match values(alloc, written) {
+        Ok(values) => Row::of(alloc, List::of(values)),
+        Err(_) => Err(NoMemory),
     }
+}
+
+const LOW: Written = (0, 3, &[0], 0);
+
+const HIGH: Written = (1, 5, &[1], 1);
+
+/// The least rows, in the order in which they are listed.
+const LEAST: [Written; 4] = [
+    (0, 0, &[0, 1], 0),
+    (0, 0, &[0, 1], 1),
+    (1, 0, &[0, 1], 0),
+    (1, 0, &[0, 1], 1),
+];
+
+/// The bounds of the low and the high row, in the order in which they are listed.
+const BOUNDS: [Written; 4] = [
+    (2, 5, &[2, 3], 2),
+    (2, 5, &[2, 3], 3),
+    (3, 5, &[2, 3], 2),
+    (3, 5, &[2, 3], 3),
+];
+
+/// A test fails where this is false.
+fn expect(holds: bool, what: &str) -> Result<(), Fail> {
+    if holds { Ok(()) } else { Err(Fail::new(what)) }
+}
+
+fn is_row(alloc: Global, found: &Row, want: &Written) -> bool {
+    match row(alloc, want) {
+        Ok(want) => print_order_rows(found, &want) == Ordering::Equal,
+        Err(_) => false,
+    }
+}
+
+fn is_copied_row(alloc: Global, found: Result<Row, NoMemory>, want: &Written) -> bool {
+    match found {
+        Ok(found) => is_row(alloc, &found, want),
+        Err(_) => false,
+    }
+}
+
+fn are_rows(alloc: Global, found: Result<List<Row>, NoMemory>, wants: &[Written]) -> bool {
+    let Ok(found) = found else {
+        return false;
+    };
+    if found.items().len() != wants.len() {
+        return false;
+    }
+    for (row, want) in found.items().iter().zip(wants.iter()) {
+        if !is_row(alloc, row, want) {
+            return false;
+        }
+    }
+    true
+}
+
+/// Whether the order copies the high row, and lists its least rows and the bounds of these two.
+fn joins(alloc: Global, order: &impl Order<Item = Row>, low: &Row, high: &Row) -> bool {
+    order.is_value(low)
+        && order.is_value(high)
+        && is_copied_row(alloc, order.copy(alloc, high), &HIGH)
+        && are_rows(alloc, order.least(alloc), &LEAST)
+        && are_rows(alloc, order.bounds(alloc, low, high), &BOUNDS)
+}
+
+/// Whether this order does, and the one whose types others own.
+fn both_join(alloc: Global, order: &RowOrder, low: &Row, high: &Row) -> bool {
+    let by_reference = RowOrderRef {
+        types: order.types,
+        kinds: order.kinds.items(),
+    };
+    joins(alloc, order, low, high) && joins(alloc, &by_reference, low, high)
+}
+
+#[test]
+fn rows_are_joined(rt: HostRuntime) -> Result<(), Fail> {
+    let alloc = rt.alloc();
+    let types = crossed(alloc)?;
+    let order = RowOrder {
+        types: &types,
+        kinds: kinds(alloc)?,
+    };
+    let low = row(alloc, &LOW)?;
+    let high = row(alloc, &HIGH)?;
+    expect(both_join(alloc, &order, &low, &high), "rows")
+}
+
+fn is_value(found: Result<Value, NoMemory>, want: &Value) -> bool {
+    match found {
+        Ok(found) => print_order(&found, want) == Ordering::Equal,
+        Err(_) => false,
+    }
+}
+
+fn are_elements(found: Result<List<Value>, NoMemory>, wants: [u32; 2]) -> bool {
+    match found {
+        Ok(found) => match found.items() {
+            [Value::El(x), Value::El(y)] => [*x, *y] == wants,
+            _ => false,
+        },
+        Err(_) => false,
+    }
+}
+
+/// Whether the order of the elements copies one, and lists the least ones and the bounds of these two.
+fn elements_join(alloc: Global, order: &ValueOrder, low: &Value, high: &Value) -> bool {
+    order.is_value(low)
+        && order.is_value(high)
+        && is_value(order.copy(alloc, low), low)
+        && are_elements(order.least(alloc), [0, 1])
+        && are_elements(order.bounds(alloc, low, high), [2, 3])
+}
+
+#[test]
+fn elements_are_joined(rt: HostRuntime) -> Result<(), Fail> {
+    let types = crossed(rt.alloc())?;
+    let order = ValueOrder {
+        types: &types,
+        kind: &Kind::Fin(0),
+    };
+    let joined = elements_join(rt.alloc(), &order, &Value::El(0), &Value::El(1));
+    expect(joined, "elements")
+}
+
+fn are_copied(alloc: Global, values: &[Value]) -> bool {
+    for value in values {
+        if !is_value(value.copy(alloc), value) {
+            return false;
+        }
+    }
+    true
+}
+
+#[test]
+fn rows_and_values_are_copied(rt: HostRuntime) -> Result<(), Fail> {
+    let alloc = rt.alloc();
+    let row = row(alloc, &HIGH)?;
+    expect(is_copied_row(alloc, row.copy(alloc), &HIGH), "a row")?;
+    expect(are_copied(alloc, row.values()), "values")?;
+    expect(is_value(Value::Top.copy(alloc), &Value::Top), "Top")
+}
+
+/// Units of each form.
+fn units(alloc: Global) -> Result<List<PortUnit>, AllocError> {
+    let unit = PortUnit::Unit {
+        text: text(alloc, "kg")?,
+        size: 1000,
+    };
+    Ok(List::of(vec![in alloc; unit, PortUnit::Nat, PortUnit::Poset]?))
+}
+
+/// A port with a type and a unit of each form.
+fn port(alloc: Global) -> Result<Port, AllocError> {
+    Ok(Port {
+        name: text(alloc, "load")?,
+        kind: Kind::Prod(kinds(alloc)?),
+        unit: PortUnit::Parts(units(alloc)?),
+    })
+}
+
+fn is_unit(unit: &PortUnit) -> bool {
+    match unit {
+        PortUnit::Parts(parts) => parts.items().len() == 3,
+        _ => false,
+    }
+}
+
+fn is_port(found: &Port, want: &Port) -> bool {
+    found.name.as_str() == "load" && found.kind.is_same(&want.kind) && is_unit(&found.unit)
+}
+
+fn is_copied_port(found: Result<Port, NoMemory>, want: &Port) -> bool {
+    match found {
+        Ok(found) => is_port(&found, want),
+        Err(_) => false,
+    }
+}
+
+fn are_ports(found: Result<List<Port>, NoMemory>, want: &Port) -> bool {
+    match found {
+        Ok(found) => match found.items() {
+            [port] => is_port(port, want),
+            _ => false,
+        },
+        Err(_) => false,
+    }
+}
+
+fn is_copied_unit(found: Result<PortUnit, NoMemory>) -> bool {
+    match found {
+        Ok(found) => is_unit(&found),
+        Err(_) => false,
+    }
+}
+
+#[test]
+fn ports_are_copied(rt: HostRuntime) -> Result<(), Fail> {
+    let alloc = rt.alloc();
+    let ports = vec![in alloc; port(alloc)?]?;
+    for port in ports.as_slice() {
+        expect(is_copied_unit(port.unit.copy(alloc)), "a unit")?;
+        expect(is_copied_port(port.copy(alloc), port), "a port")?;
+        expect(
+            are_ports(copy_ports(alloc, ports.as_slice()), port),
+            "ports",
+        )?;
+    }
+    Ok(())
+}
+
+fn is_kind(found: Result<Kind, NoMemory>, want: &Kind) -> bool {
+    match found {
+        Ok(found) => found.is_same(want),
+        Err(_) => false,
+    }
+}
+
+fn are_kinds(found: Result<List<Kind>, NoMemory>, want: &Kind) -> bool {
+    match found {
+        Ok(found) => match found.items() {
+            [kind] => kind.is_same(want),
+            _ => false,
+        },
+        Err(_) => false,
+    }
+}
+
+#[test]
+fn types_are_copied(rt: HostRuntime) -> Result<(), Fail> {
+    let alloc = rt.alloc();
+    let ports = vec![in alloc; port(alloc)?]?;
+    for port in ports.as_slice() {
+        expect(is_kind(port.kind.copy(alloc), &port.kind), "a type")?;
+        expect(
+            are_kinds(kinds_of(alloc, ports.as_slice()), &port.kind),
+            "types",
+        )?;
+        let kinds = slice::from_ref(&port.kind);
+        expect(are_kinds(copy_kinds(alloc, kinds), &port.kind), "copies")?;
+    }
+    Ok(())
 }

@@ -3,7 +3,7 @@
 ghost use Rattle.std.specs.Prelude.{◌≡◌, IfOk, IsTrue, map};
 ghost use Rattle.value_type.specs.Fits.{is_number};
 ghost use Rattle.value_type.specs.Forms.{is_one, is_many, is_set};
-ghost use Rattle.value_type.specs.KindLaws.{number_value};
+ghost use Rattle.value_type.specs.Forms.{number_value};
 ghost use Rattle.value_type.specs.declared.value.Value.{out-Value};
 
 use crate::value::Value;

@@ -1,6 +1,6 @@
 use Rattle.std.proofs.Common.{◌∙◌, ◌<◌, not, ap, sym, length, arith}
 use Rattle.std.proofs.lemmas.List.Filters.{FiltersInPlace-more_no, FiltersInPlace-more_swap}
-use Rattle.antichain.specs.Lists.{all-drop_more}
+use Rattle.antichain.specs.ListLaws.{all-drop_more}
 use Rattle.antichain.proofs.scan.remove_above.Goals as goal
 use Rattle.antichain.proofs.scan.remove_above.Goals.{then-not-leq, else-not-leq}
 

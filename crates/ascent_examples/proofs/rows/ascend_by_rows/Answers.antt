@@ -1,4 +1,4 @@
-use Rattle.ascent_examples.specs.Rows.{rows_are_monotone}
+use Rattle.ascent_examples.proofs.RowLemmas.{rows_are_monotone}
 use Rattle.ascent_examples.proofs.rows.ascend_by_rows.Goals as goal
 
 pub ascend-requires-clause-monotone : goal.ascend-requires-clause-monotone

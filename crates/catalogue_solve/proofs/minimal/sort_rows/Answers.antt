@@ -1,6 +1,6 @@
 use Rattle.std.proofs.Common.{rules, tests}
 use Rattle.std.proofs.lemmas.List.Sorted.{answers_always}
-use Rattle.order_core.specs.TotalOrders.{weak}
+use Rattle.order_core.specs.TotalOrderLaws.{weak}
 use Rattle.value_type.specs.PrintLaws.{row_total}
 use Rattle.value_type.specs.PrintOrder.{row_cmp, is_before}
 use Rattle.catalogue_solve.proofs.minimal.sort_rows.Goals as goal

@@ -1,4 +1,4 @@
-use Rattle.order_core.specs.Permuted.{all_permuted}
+use Rattle.order_core.specs.PermutationLaws.{all_permuted}
 use Rattle.value_type.specs.Fits.{row_fits}
 use Rattle.value_type.specs.Leq.{row_leq}
 use Rattle.value_type.specs.PortKinds.{port_kinds}

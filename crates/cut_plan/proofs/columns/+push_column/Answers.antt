@@ -1,6 +1,6 @@
 use Rattle.std.proofs.Common.{◌≡◌, true, false, map, drop, ◌+◌, ◌∙◌, rules}
 use Rattle.design_model.specs.Heights.{survey}
-use Rattle.cut_plan.specs.ColumnLaws.{choice_rows, column_more, column_none, rows_step}
+use Rattle.cut_plan.proofs.ColumnLaws.{choice_rows, column_more, column_none, rows_step}
 use Rattle.cut_plan.proofs.columns.+push_column.Goals as goal
 
 pub push_column-returns-in-Choice : goal.push_column-returns-in-Choice

@@ -1,5 +1,5 @@
 use Rattle.std.proofs.Common.{◌≡◌, true, false, sym, rules}
-use Rattle.cut_plan.specs.ColumnLaws.{after_nothing}
+use Rattle.cut_plan.proofs.ColumnLaws.{after_nothing}
 use Rattle.cut_plan.proofs.columns.column_of.Goals as goal
 
 pub returns-then-branch : goal.returns-then-branch

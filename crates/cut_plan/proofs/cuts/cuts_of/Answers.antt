@@ -4,9 +4,9 @@ use Rattle.value_type.specs.PortKinds.{port_kinds}
 use Rattle.design_model.specs.declared.design.Part.{Part}
 use Rattle.design_model.specs.Evaluation.{part_reads}
 use Rattle.design_model.specs.Parts.{provided_ports}
-use Rattle.cut_plan.specs.Nets.{net_is}
+use Rattle.cut_plan.specs.NetsLaws.{net_is}
 use Rattle.cut_plan.specs.OrderLaws.{turns_order}
-use Rattle.cut_plan.specs.SignalLaws.{order_few, cuts_listed}
+use Rattle.cut_plan.proofs.SignalLemmas.{order_few, cuts_listed}
 use Rattle.cut_plan.proofs.cuts.cuts_of.Goals as goal
 
 pub in_32_bits-requires : goal.in_32_bits-requires

@@ -1,6 +1,6 @@
 use Rattle.std.proofs.Common.{◌≡◌, length, sym, ◌∙◌}
 use Rattle.cut_plan.specs.OrderLaws.{turns_order, turns_length}
-use Rattle.cut_plan.specs.SignalLaws.{table_length, plan_order, plan_cuts}
+use Rattle.cut_plan.proofs.SignalLemmas.{table_length, plan_order, plan_cuts}
 use Rattle.design_model.specs.Evaluation.{part_reads, numbers_from}
 use Rattle.cut_plan.proofs.cuts.plan_of.Goals as goal
 

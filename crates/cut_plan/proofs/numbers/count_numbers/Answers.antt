@@ -6,7 +6,8 @@ use Rattle.std.proofs.lemmas.List.Kept.{Contains-dedup_nat, Contains-from_dedup}
 use Rattle.std.proofs.lemmas.List.Sorted.{Contains-permutation, IsPermutation-sym}
 use Rattle.std.proofs.lemmas.Map.Keys.{IsStrictlyIncreasing-dedup}
 use Rattle.value_type.specs.declared.value.Value.{out-Value}
-use Rattle.cut_plan.specs.Different.{counts, is_top, counted}
+use Rattle.cut_plan.specs.Different.{counts, is_top}
+use Rattle.cut_plan.proofs.DifferentLemmas.{counted}
 use Rattle.cut_plan.proofs.numbers.count_numbers.Goals as goal
 
 pub returns : goal.returns

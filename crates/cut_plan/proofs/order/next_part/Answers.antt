@@ -1,6 +1,6 @@
 use Rattle.std.proofs.Common.{◌≡◌, ◌&&◌, true, false, [], get_or, sym, arith, ◌∙◌}
 use Rattle.std.proofs.lemmas.List.{get_or_read}
-use Rattle.cut_plan.specs.TurnLaws.{ready_is, stops, passes_on}
+use Rattle.cut_plan.proofs.TurnLemmas.{ready_is, stops, passes_on}
 use Rattle.cut_plan.specs.Turns.{table_reads, left_from, is_left}
 use Rattle.design_model.specs.Evaluation.{is_ready, first_or}
 use Rattle.cut_plan.proofs.order.next_part.Goals as goal

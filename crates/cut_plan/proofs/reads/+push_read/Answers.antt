@@ -1,4 +1,4 @@
-use Rattle.cut_plan.specs.ReadLaws.{by-Tuple}
+use Rattle.cut_plan.proofs.ReadLemmas.{by-Tuple}
 use Rattle.cut_plan.proofs.reads.+push_read.Goals as goal
 
 pub push_read-returns-in-Tuple : goal.push_read-returns-in-Tuple

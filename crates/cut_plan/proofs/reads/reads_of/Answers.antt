@@ -1,5 +1,5 @@
 use Rattle.std.proofs.Common.{◌≡◌, ◌++◌, [], ◌∷◌, append_assoc, rules}
-use Rattle.cut_plan.specs.ReadLaws.{table_step}
+use Rattle.cut_plan.proofs.ReadLemmas.{table_step}
 use Rattle.cut_plan.proofs.reads.reads_of.Goals as goal
 
 pub loop-part-preserved : goal.loop-part-preserved

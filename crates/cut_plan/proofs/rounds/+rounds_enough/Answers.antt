@@ -1,6 +1,6 @@
 use Rattle.std.proofs.Common.{◌≡◌, ◌∙◌, rules}
 use Rattle.std.specs.Prelude.{None}
-use Rattle.cut_plan.specs.MostLaws.{most_step, choice_enough, net_none, net_some}
+use Rattle.cut_plan.proofs.MostLemmas.{most_step, choice_enough, net_none, net_some}
 use Rattle.cut_plan.proofs.rounds.+rounds_enough.Goals as goal
 
 pub greatest_of-loop-part-preserved : goal.greatest_of-loop-part-preserved

@@ -2,8 +2,8 @@ use Rattle.std.proofs.Common.{◌≡◌, ◌+◌, drop, ap, ◌∙◌, sym, arit
 use Rattle.std.specs.Prelude.{None}
 use Rattle.design_model.specs.Heights.{sum_all}
 use Rattle.design_model.specs.Parts.{required_ports}
-use Rattle.cut_plan.specs.NetHeights.{parts_step}
-use Rattle.cut_plan.specs.SumLaws.{sum_joined, sum_step, sum_none}
+use Rattle.cut_plan.proofs.NetHeightsLemmas.{parts_step}
+use Rattle.cut_plan.proofs.SumLaws.{sum_joined, sum_step, sum_none}
 use Rattle.cut_plan.specs.Totals.{sum_from, port_heights, all_heights}
 use Rattle.cut_plan.proofs.rounds.heights_of_parts.Goals as goal
 

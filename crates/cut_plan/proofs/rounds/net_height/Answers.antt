@@ -3,7 +3,7 @@ use Rattle.std.proofs.lemmas.Result.{IfOk-weaker}
 use Rattle.value_type.specs.declared.port.Port.{Port}
 use Rattle.design_model.specs.Heights.{net_height, surveyed, sum_all}
 use Rattle.design_model.specs.HeightsLaws.{of_part}
-use Rattle.cut_plan.specs.NetHeights.{heights_are}
+use Rattle.cut_plan.proofs.NetHeightsLemmas.{heights_are}
 use Rattle.cut_plan.specs.Totals.{clipped, all_heights}
 use Rattle.cut_plan.proofs.rounds.net_height.Goals as goal
 

@@ -1,6 +1,6 @@
 use Rattle.std.proofs.Common.{get_or, length, ◌∙◌, arith}
 use Rattle.std.proofs.lemmas.List.{length-set}
-use Rattle.cut_plan.specs.CutLaws.{placed_step, all_placed}
+use Rattle.cut_plan.proofs.CutLaws.{placed_step, all_placed}
 use Rattle.cut_plan.specs.OrderLaws.{item_at}
 use Rattle.cut_plan.proofs.signals.places_of.Goals as goal
 

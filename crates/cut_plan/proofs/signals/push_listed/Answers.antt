@@ -1,6 +1,6 @@
 use Rattle.std.proofs.Common.{◌≡◌, ◌++◌, [], ◌∷◌, true, false, sym, ◌∙◌, append_assoc, rules}
 use Rattle.cut_plan.specs.CutReads.{is_listed}
-use Rattle.cut_plan.specs.CutLaws.{ports_step}
+use Rattle.cut_plan.proofs.CutLaws.{ports_step}
 use Rattle.cut_plan.proofs.signals.push_listed.Goals as goal
 use Rattle.cut_plan.proofs.signals.push_listed.Goals.{else-is_listed-via-then-is_listed+else-is_err, else-is_listed-via-else-is_listed}
 

@@ -4,7 +4,7 @@ use Rattle.std.proofs.lemmas.Cmp.{nat_list_cmp_total}
 use Rattle.std.specs.Cmp.Lexicographic.{slice_cmp}
 use Rattle.std.specs.Ordering.{nat_cmp}
 use Rattle.design_cli.specs.ByteOrder.{is_before}
-use Rattle.order_core.specs.TotalOrders.{weak}
+use Rattle.order_core.specs.TotalOrderLaws.{weak}
 use Rattle.design_cli.proofs.byte_order.sort_texts.Goals as goal
 
 pub returns-clause-sorted : goal.returns-clause-sorted

@@ -2,7 +2,7 @@ use Rattle.std.proofs.Common.{◌≡◌, ◌∙◌, ◌++◌, sym, ap, subst, Is
 use Rattle.plain_form.specs.Names.{is_name}
 use Rattle.design_cli.specs.Library.{design_extension}
 use Rattle.plain_form.proofs.NameTexts.{name_utf8}
-use Rattle.plain_form.specs.Texts.{before_some}
+use Rattle.plain_form.specs.TextLaws.{before_some}
 use Rattle.design_cli.proofs.library.design_of.Goals as goal
 
 pub returns-clause-design : goal.returns-clause-design

@@ -1,5 +1,5 @@
 use Rattle.std.proofs.Common.{refl}
-use Rattle.design_model.specs.AboveLaws.{witnessed_provided}
+use Rattle.design_model.proofs.AboveLaws.{witnessed_provided}
 use Rattle.design_model.proofs.constraint.greater_value.Goals as goal
 
 pub returns-in-Some : goal.returns-in-Some

@@ -1,5 +1,5 @@
 use Rattle.std.proofs.Common.{sym, ◌∙◌}
-use Rattle.design_model.specs.AboveLaws.{witnessed_required, tested, passes}
+use Rattle.design_model.proofs.AboveLaws.{witnessed_required, tested, passes}
 use Rattle.design_model.proofs.constraint.satisfied.Goals as goal
 
 pub returns : goal.returns

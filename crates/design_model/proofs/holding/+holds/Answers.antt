@@ -1,7 +1,7 @@
-use Rattle.order_core.specs.Pointwise.{pointwise_length}
+use Rattle.order_core.specs.PointwiseLaws.{pointwise_length}
 use Rattle.design_model.specs.Holds.{Fit, Holds, PartHolds}
 use Rattle.design_model.specs.HoldsLaws.{holds_fits}
-use Rattle.design_model.specs.HoldsCases.{row_decides, no_row, branch_decides, no_branch, parts_decide, no_parts}
+use Rattle.design_model.specs.HoldsCaseLaws.{row_decides, no_row, branch_decides, no_branch, parts_decide, no_parts}
 use Rattle.design_model.specs.PartsLaws.{provided-Cat, required-Cat, provided-Choice, required-Choice, provided-Net, required-Net}
 use Rattle.design_model.proofs.holding.+holds.Goals as goal
 
@@ -11,7 +11,7 @@ holds-returns-then-not-ports_fit t c = (
   λ h.
       let fit = holds_fits c.args.types.now c.args.design.now c.args.f.now c.args.r.now c.args.witness.now h in
       let fits = fit.provided in
-      let said = rw (c.provides.ensures, c.values.ensures) at c.ports_fit.ensures in
+      let said = rw (c.provided_ports.ensures, c.values.ensures) at c.ports_fit.ensures in
       let no = c.if-not-ports_fit.true in
       cc,
 )
@@ -22,15 +22,15 @@ holds-returns-then-not-ports_fit-2 t c = (
   λ h.
       let fit = holds_fits c.args.types.now c.args.design.now c.args.f.now c.args.r.now c.args.witness.now h in
       let fits = fit.required in
-      let said = rw (c.requires_.ensures, c.values-2.ensures) at c.ports_fit-2.ensures in
+      let said = rw (c.required_ports.ensures, c.values-2.ensures) at c.ports_fit-2.ensures in
       let no = c.if-not-ports_fit-2.true in
       cc,
 )
 
 pub holds-returns-in-Row : goal.holds-returns-in-Row
 holds-returns-in-Row t c =
-    let f_said = rw (c.provides.ensures, c.values.ensures, c.in-Cat.is, provided-Cat) at c.ports_fit.ensures in
-    let r_said = rw (c.requires_.ensures, c.values-2.ensures, c.in-Cat.is, required-Cat) at c.ports_fit-2.ensures in
+    let f_said = rw (c.provided_ports.ensures, c.values.ensures, c.in-Cat.is, provided-Cat) at c.ports_fit.ensures in
+    let r_said = rw (c.required_ports.ensures, c.values-2.ensures, c.in-Cat.is, required-Cat) at c.ports_fit-2.ensures in
     let f_yes = c.if-not-ports_fit.false in
     let r_yes = c.if-not-ports_fit-2.false in
     let fit : Fit c.args.types.now c.in-Cat.provides c.in-Cat.requires_ c.args.f.now c.args.r.now = record { provided = cc; required = cc } in
@@ -46,8 +46,8 @@ holds-returns-in_default t c = (
 
 pub holds-returns-in-Branch : goal.holds-returns-in-Branch
 holds-returns-in-Branch t c =
-    let f_said = rw (c.provides.ensures, c.values.ensures, c.in-Choice.is, provided-Choice) at c.ports_fit.ensures in
-    let r_said = rw (c.requires_.ensures, c.values-2.ensures, c.in-Choice.is, required-Choice) at c.ports_fit-2.ensures in
+    let f_said = rw (c.provided_ports.ensures, c.values.ensures, c.in-Choice.is, provided-Choice) at c.ports_fit.ensures in
+    let r_said = rw (c.required_ports.ensures, c.values-2.ensures, c.in-Choice.is, required-Choice) at c.ports_fit-2.ensures in
     let f_yes = c.if-not-ports_fit.false in
     let r_yes = c.if-not-ports_fit-2.false in
     let fit : Fit c.args.types.now c.in-Choice.provides c.in-Choice.requires_ c.args.f.now c.args.r.now = record { provided = cc; required = cc } in
@@ -63,8 +63,8 @@ holds-returns-in_default-witness t c = (
 
 pub holds-returns-then-parts_hold : goal.holds-returns-then-parts_hold
 holds-returns-then-parts_hold t c =
-    let f_said = rw (c.provides.ensures, c.values.ensures, c.in-Net.is, provided-Net) at c.ports_fit.ensures in
-    let r_said = rw (c.requires_.ensures, c.values-2.ensures, c.in-Net.is, required-Net) at c.ports_fit-2.ensures in
+    let f_said = rw (c.provided_ports.ensures, c.values.ensures, c.in-Net.is, provided-Net) at c.ports_fit.ensures in
+    let r_said = rw (c.required_ports.ensures, c.values-2.ensures, c.in-Net.is, required-Net) at c.ports_fit-2.ensures in
     let f_yes = c.if-not-ports_fit.false in
     let r_yes = c.if-not-ports_fit-2.false in
     let fit : Fit c.args.types.now c.in-Net.provides c.in-Net.requires_ c.args.f.now c.args.r.now = record { provided = cc; required = cc } in
@@ -75,8 +75,8 @@ holds-returns-then-parts_hold t c =
 pub holds-returns-else-parts_hold : goal.holds-returns-else-parts_hold
 holds-returns-else-parts_hold t c =
     let parts = rw (c.items-in-Inner.ensures, c.items-in-Inner-2.ensures) at c.parts_hold.ensures in
-    let f_said = rw (c.provides.ensures, c.values.ensures, c.in-Net.is, provided-Net) at c.ports_fit.ensures in
-    let r_said = rw (c.requires_.ensures, c.values-2.ensures, c.in-Net.is, required-Net) at c.ports_fit-2.ensures in
+    let f_said = rw (c.provided_ports.ensures, c.values.ensures, c.in-Net.is, provided-Net) at c.ports_fit.ensures in
+    let r_said = rw (c.required_ports.ensures, c.values-2.ensures, c.in-Net.is, required-Net) at c.ports_fit-2.ensures in
     let f_yes = c.if-not-ports_fit.false in
     let r_yes = c.if-not-ports_fit-2.false in
     let no = c.if-parts_hold.false in

@@ -2,8 +2,8 @@ use Rattle.std.proofs.Common.{sym, arith}
 use Rattle.std.proofs.lemmas.Result.{err_from_is_err_and}
 use Rattle.grammar_core.specs.declared.class.Class.TheVariants as class
 use Rattle.grammar_core.specs.Classes.{is, one_of}
-use Rattle.grammar_core.specs.Loops.{goes_on_after, ends_after, is_done, smaller_after}
-use Rattle.grammar_core.specs.Parts.{done_is}
+use Rattle.grammar_core.specs.LoopLaws.{goes_on_after, ends_after, is_done, smaller_after}
+use Rattle.grammar_core.specs.PartLaws.{done_is}
 use Rattle.grammar_core.specs.Reading.{sym_at, listed_at}
 use Rattle.grammar_core.specs.Words.{at_end}
 use Rattle.design_parser.specs.Grammar.{Item, Term, Expr}

@@ -1,7 +1,7 @@
 use Rattle.std.proofs.lemmas.Result.{err_from_is_err_and}
 use Rattle.grammar_core.specs.declared.class.Class.TheVariants as class
 use Rattle.grammar_core.specs.Classes.{is}
-use Rattle.grammar_core.specs.Loops.{goes_on, ends, is_done, smaller}
+use Rattle.grammar_core.specs.LoopLaws.{goes_on, ends, is_done, smaller}
 use Rattle.grammar_core.specs.Parts.{none}
 use Rattle.grammar_core.specs.Words.{at_end}
 use Rattle.design_parser.specs.Grammar.{Chain}

@@ -1,6 +1,6 @@
 use Rattle.std.proofs.lemmas.Result.{err_from_is_err_and}
 use Rattle.grammar_core.specs.Classes.{is}
-use Rattle.grammar_core.specs.Loops.{goes_on_after, ends_after, is_done}
+use Rattle.grammar_core.specs.LoopLaws.{goes_on_after, ends_after, is_done}
 use Rattle.grammar_core.specs.Parts.{none}
 use Rattle.grammar_core.specs.Reading.{listed_at, sym_at}
 use Rattle.grammar_core.specs.Spelled.{name_at}

@@ -3,7 +3,7 @@ use Rattle.grammar_core.specs.Classes.{lexemes_of}
 use Rattle.grammar_core.specs.FaultLaws.{fails_within, fails_at}
 use Rattle.grammar_core.specs.Parts.{none}
 use Rattle.grammar_core.specs.Reading.{whole}
-use Rattle.grammar_core.specs.Whole.{whole_written}
+use Rattle.grammar_core.specs.WholeLaws.{whole_written}
 use Rattle.grammar_core.specs.Words.{place_or}
 use Rattle.design_parser.specs.Grammar.{Written}
 use Rattle.design_parser.specs.Readers.{file_at}

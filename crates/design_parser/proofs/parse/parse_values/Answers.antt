@@ -2,7 +2,7 @@ use Rattle.std.proofs.Common.{◌≡◌, ◌-◌, length, drop, Err, sym, ap, su
 use Rattle.grammar_core.specs.Classes.{lexemes_of, one_of}
 use Rattle.grammar_core.specs.FaultLaws.{fails_within, fails_at}
 use Rattle.grammar_core.specs.Reading.{whole}
-use Rattle.grammar_core.specs.Whole.{whole_written}
+use Rattle.grammar_core.specs.WholeLaws.{whole_written}
 use Rattle.grammar_core.specs.Words.{place_or}
 use Rattle.design_parser.specs.Grammar.{Query}
 use Rattle.design_parser.specs.Readers.{maybe_cells_at}

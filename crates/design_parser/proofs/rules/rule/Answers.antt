@@ -3,7 +3,7 @@ use Rattle.std.proofs.lemmas.List.{length-take}
 use Rattle.std.specs.Result.{result_err}
 use Rattle.grammar_core.specs.declared.fault.ReadFault.TheVariants as fault
 use Rattle.grammar_core.specs.FaultLaws.{left_within}
-use Rattle.grammar_core.specs.Gives.{fault_given}
+use Rattle.grammar_core.specs.GivesLaws.{fault_given}
 use Rattle.grammar_core.specs.Parts.{none}
 use Rattle.design_parser.specs.Grammar.{RuleOf}
 use Rattle.design_parser.specs.Readers.{whole_rule_at}

@@ -1,7 +1,7 @@
 use Rattle.std.proofs.Common.{rules, arith, refl}
 use Rattle.std.proofs.lemmas.Grind.{common_steps}
 use Rattle.std.proofs.lemmas.List.{take_rest}
-use Rattle.design_world.specs.Bytes.{followed-take}
+use Rattle.design_world.proofs.BytesLemmas.{followed-take}
 use Rattle.design_world.proofs.write.put_all.Goals as goal
 
 pub loop-at-preserved : goal.loop-at-preserved

@@ -1,4 +1,4 @@
-use Rattle.kleene_loop.specs.Laws.{new_once}
+use Rattle.kleene_loop.proofs.Ends.{new_once}
 use Rattle.kleene_loop.proofs.laws.points_are_asked_once.Goals as goal
 
 pub returns : goal.returns

@@ -1,4 +1,4 @@
-use Rattle.model_examples.specs.Back as example
+use Rattle.model_examples.proofs.BackLemmas as example
 use Rattle.model_examples.proofs.examples.back_gives_the_top.Goals as goal
 
 pub returns : goal.returns

@@ -1,4 +1,4 @@
-use Rattle.model_examples.specs.Batteries as example
+use Rattle.model_examples.proofs.BatteriesLemmas as example
 use Rattle.model_examples.proofs.examples.batteries_at_60.Goals as goal
 
 pub returns : goal.returns

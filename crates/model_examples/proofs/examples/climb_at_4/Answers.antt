@@ -1,4 +1,4 @@
-use Rattle.model_examples.specs.Climb as example
+use Rattle.model_examples.proofs.ClimbSteps as example
 use Rattle.model_examples.proofs.examples.climb_at_4.Goals as goal
 
 pub returns : goal.returns

@@ -1,4 +1,4 @@
-use Rattle.model_examples.specs.Lifter as example
+use Rattle.model_examples.proofs.LifterLemmas as example
 use Rattle.model_examples.proofs.examples.lifter_at_95.Goals as goal
 
 pub returns : goal.returns

@@ -1,4 +1,4 @@
-use Rattle.model_examples.specs.Motors as example
+use Rattle.model_examples.proofs.MotorsLemmas as example
 use Rattle.model_examples.proofs.examples.motors_at_90.Goals as goal
 
 pub returns : goal.returns

@@ -1,4 +1,4 @@
-use Rattle.model_examples.specs.Relay as example
+use Rattle.model_examples.proofs.RelayLemmas as example
 use Rattle.model_examples.proofs.examples.relay_in_order.Goals as goal
 
 pub returns : goal.returns

@@ -1,4 +1,4 @@
-use Rattle.model_examples.specs.TwoBounds as example
+use Rattle.model_examples.proofs.TwoBoundsLemmas as example
 use Rattle.model_examples.proofs.examples.two_bounds.Goals as goal
 
 pub returns : goal.returns

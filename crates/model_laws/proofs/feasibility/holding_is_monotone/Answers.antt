@@ -1,4 +1,4 @@
-use Rattle.model_laws.specs.HoldsMonotone.{holds_eased, feasible_eased}
+use Rattle.model_laws.specs.HoldsMonotoneLaws.{holds_eased, feasible_eased}
 use Rattle.model_laws.proofs.feasibility.holding_is_monotone.Goals as goal
 
 pub returns : goal.returns

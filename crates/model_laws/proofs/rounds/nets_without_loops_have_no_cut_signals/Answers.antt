@@ -1,5 +1,5 @@
 use Rattle.design_model.specs.Steady.{wiring}
-use Rattle.model_laws.specs.Acyclic.{no_cut_signals, as_many_parts}
+use Rattle.model_laws.proofs.AcyclicLemmas.{no_cut_signals, as_many_parts}
 use Rattle.model_laws.proofs.rounds.nets_without_loops_have_no_cut_signals.Goals as goal
 
 pub returns : goal.returns

@@ -1,4 +1,4 @@
-use Rattle.model_laws.specs.RoundsMonotone.{feasible_in_eased}
+use Rattle.model_laws.specs.RoundsMonotoneLaws.{feasible_in_eased}
 use Rattle.model_laws.proofs.rounds.rounds_are_monotone.Goals as goal
 
 pub returns : goal.returns

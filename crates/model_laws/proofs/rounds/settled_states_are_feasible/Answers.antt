@@ -1,5 +1,5 @@
 use Rattle.design_model.specs.Steady.{MayCarryIn}
-use Rattle.model_laws.specs.Settled.{settled_is_feasible}
+use Rattle.model_laws.specs.SettledLaws.{settled_is_feasible}
 use Rattle.model_laws.proofs.rounds.settled_states_are_feasible.Goals as goal
 
 pub returns : goal.returns

@@ -1,8 +1,8 @@
 use Rattle.std.proofs.Common.{◌≡◌, ◌∙◌, ◌<◌, sym, ap, refl, [], ◌∷◌, length, IsTrue, arith, rules}
 use Rattle.std.specs.List.{list_all, flat_map}
 use Rattle.order_core.specs.Tuple.{with_each}
-use Rattle.order_core.specs.Partners.{are_values_length, are_values_front, are_values_rest}
-use Rattle.order_core.specs.Products.{product_of_none}
+use Rattle.order_core.specs.PartnerLaws.{are_values_length, are_values_front, are_values_rest}
+use Rattle.order_core.proofs.ProductLemmas.{product_of_none}
 use Rattle.order_core.proofs.Growth.{joined-start, product_next, product_done, tuples_next}
 use Rattle.order_core.proofs.choices.product_of.Goals as goal
 

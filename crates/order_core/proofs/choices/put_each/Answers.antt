@@ -1,5 +1,5 @@
 use Rattle.std.proofs.Common.{sym, ◌∙◌}
-use Rattle.order_core.specs.Members.{append_nil}
+use Rattle.order_core.specs.MemberLaws.{append_nil}
 use Rattle.order_core.proofs.Growth.{put_more, put_last}
 use Rattle.order_core.proofs.choices.put_each.Goals as goal
 

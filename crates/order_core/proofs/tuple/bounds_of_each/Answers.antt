@@ -1,5 +1,5 @@
 use Rattle.std.proofs.Common.{arith}
-use Rattle.order_core.specs.Partners.{are_values_length, bounds_done}
+use Rattle.order_core.specs.PartnerLaws.{are_values_length, bounds_done}
 use Rattle.order_core.proofs.tuple.bounds_of_each.Goals as goal
 
 pub loop-at-init : goal.loop-at-init

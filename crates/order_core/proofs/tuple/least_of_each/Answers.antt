@@ -1,4 +1,4 @@
-use Rattle.order_core.specs.Partners.{least_done}
+use Rattle.order_core.specs.PartnerLaws.{least_done}
 use Rattle.order_core.proofs.tuple.least_of_each.Goals as goal
 
 pub returns : goal.returns

@@ -1,6 +1,6 @@
 use Rattle.std.proofs.Common.{◌+◌, ◌*◌, ◌≤◌, get_or, arith}
 use Rattle.std.proofs.lemmas.List.{drop_more}
-use Rattle.order_core.specs.Members.{second}
+use Rattle.order_core.specs.MemberLaws.{second}
 use Rattle.plain_form.specs.Names.{is_digit}
 use Rattle.plain_form.proofs.Digits.{reads_more, room_at, room_now, front_digit, digit_bound}
 use Rattle.plain_form.proofs.number.extended.Goals as goal

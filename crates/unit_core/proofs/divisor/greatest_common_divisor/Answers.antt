@@ -1,5 +1,5 @@
 use Rattle.std.proofs.Common.{◌∙◌, sym}
-use Rattle.unit_core.specs.Gcd.{gcd-zero, gcd-mod}
+use Rattle.unit_core.specs.GcdLaws.{gcd-zero, gcd-mod}
 use Rattle.unit_core.proofs.divisor.greatest_common_divisor.Goals as goal
 
 pub loop-lesser-preserved : goal.loop-lesser-preserved

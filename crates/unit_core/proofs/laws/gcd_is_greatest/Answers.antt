@@ -1,4 +1,4 @@
-use Rattle.unit_core.specs.Gcd.{gcd-IsGcd}
+use Rattle.unit_core.specs.GcdLaws.{gcd-IsGcd}
 use Rattle.unit_core.proofs.laws.gcd_is_greatest.Goals as goal
 
 pub returns : goal.returns

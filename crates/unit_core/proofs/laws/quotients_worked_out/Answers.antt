@@ -5,4 +5,4 @@ use Rattle.unit_core.proofs.laws.quotients_worked_out.Goals as goal
 
 pub returns : goal.returns
 unfolding gcd gcd_within quotient
-returns c = record { lowest = refl; reduced = refl; zero = refl; no_divisor = refl; greatest = refl; above = refl; finest = refl }
+returns c = record { lowest = refl; reduced = refl; zero = refl; no_divisor = refl; greatest = refl; above = refl; long = refl; finest = refl }

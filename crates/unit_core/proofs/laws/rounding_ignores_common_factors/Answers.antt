@@ -1,4 +1,4 @@
-use Rattle.unit_core.specs.Rounding.{ceiling_lowest, floor_lowest}
+use Rattle.unit_core.specs.RoundingLaws.{ceiling_lowest, floor_lowest}
 use Rattle.unit_core.proofs.laws.rounding_ignores_common_factors.Goals as goal
 
 pub returns : goal.returns

@@ -2,15 +2,17 @@ use Rattle.std.proofs.Common.{◌≡◌, ◌++◌, ◌∷◌, [], ◌<◌, lengt
 use Rattle.std.specs.List.{list_all}
 use Rattle.order_core.specs.Finite as finite
 use Rattle.order_core.specs.Num as numbers
-use Rattle.order_core.specs.Partners.{are_values_length, are_values_rest, bounds_done, bounds_more}
-use Rattle.order_core.specs.Products.{bounds_values, product_bounds}
+use Rattle.order_core.specs.PartnerLaws.{are_values_length, are_values_rest, bounds_done, bounds_more}
+use Rattle.order_core.specs.ProductLaws.{bounds_values, product_bounds}
 use Rattle.order_core.specs.Upper as upper
 use Rattle.value_type.specs.declared.value.Value.TheVariants as value
 use Rattle.value_type.specs.declared.kind.Kind.TheVariants as kind
 use Rattle.value_type.specs.Fits.{fits, row_fits}
 use Rattle.value_type.specs.Leq.{leq, row_leq}
-use Rattle.value_type.specs.KindBounds.{wrapped_bounds, can_copy_choices}
-use Rattle.value_type.specs.KindLaws.{number_value, embeds-Num, embeds-Fin, embeds-Prod, embeds-Up}
+use Rattle.value_type.proofs.KindBoundLemmas.{wrapped_bounds}
+use Rattle.value_type.specs.KindBoundLaws.{can_copy_choices}
+use Rattle.value_type.specs.Forms.{number_value}
+use Rattle.value_type.specs.KindLaws.{embeds-Num, embeds-Fin, embeds-Prod, embeds-Up}
 use Rattle.value_type.proofs.bounds.+bounds.Goals as goal
 
 pub bounds_of-returns-in_ok-bounds-in-Num : goal.bounds_of-returns-in_ok-bounds-in-Num
@@ -24,7 +26,7 @@ bounds_of-returns-in_ok-bounds-in-Some t c =
     let T = c.args.types.now in
     let p = c.in-Some.poset.now in
     wrapped_bounds (finite.is_element p.order.table) (finite.is_below p.order.table) value.El T c.args.kind.now (kind.Fin c.in-Fin.k) (embeds-Fin T c.in-Fin.k p (sym c.in-Some.ensures)) c.in-Fin.is
-    c.elements.result _ c.elements.ensures c.element_of.result c.element_of-in-Some.result c.args.a.now c.args.b.now c.element_of.ensures c.element_of-in-Some.ensures c.in_ok-bounds-in-Some.ensures
+    c.elements.result _ c.elements.ensures c.element_of.result c.element_of-in-Some.result c.args.a.now c.args.b.now c.element_of.ensures c.element_of-in-Some.ensures c.in_ok-bounds-in-Some.ensures.bounds
 
 pub bounds_of-returns-in_ok-row_bounds-in-Prod : goal.bounds_of-returns-in_ok-row_bounds-in-Prod
 bounds_of-returns-in_ok-row_bounds-in-Prod t c =

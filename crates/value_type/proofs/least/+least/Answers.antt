@@ -2,15 +2,17 @@ use Rattle.std.proofs.Common.{◌≡◌, ◌++◌, ◌∷◌, [], sym, rules}
 use Rattle.std.specs.List.{list_all}
 use Rattle.order_core.specs.Finite as finite
 use Rattle.order_core.specs.Num as numbers
-use Rattle.order_core.specs.Partners.{least_done, least_more}
-use Rattle.order_core.specs.Products.{least_values, product_least}
+use Rattle.order_core.specs.PartnerLaws.{least_done, least_more}
+use Rattle.order_core.specs.ProductLaws.{least_values, product_least}
 use Rattle.order_core.specs.Upper as upper
 use Rattle.value_type.specs.declared.value.Value.TheVariants as value
 use Rattle.value_type.specs.declared.kind.Kind.TheVariants as kind
 use Rattle.value_type.specs.Fits.{fits, row_fits}
 use Rattle.value_type.specs.Leq.{leq, row_leq}
-use Rattle.value_type.specs.KindBounds.{wrapped_least, can_copy_choices}
-use Rattle.value_type.specs.KindLaws.{number_value, embeds-Num, embeds-Fin, embeds-Prod, embeds-Up}
+use Rattle.value_type.proofs.KindBoundLemmas.{wrapped_least}
+use Rattle.value_type.specs.KindBoundLaws.{can_copy_choices}
+use Rattle.value_type.specs.Forms.{number_value}
+use Rattle.value_type.specs.KindLaws.{embeds-Num, embeds-Fin, embeds-Prod, embeds-Up}
 use Rattle.value_type.proofs.least.+least.Goals as goal
 
 pub least_of-returns-in_ok-least-in-Num : goal.least_of-returns-in_ok-least-in-Num
@@ -22,7 +24,7 @@ pub least_of-returns-in_ok-least-in-Some : goal.least_of-returns-in_ok-least-in-
 least_of-returns-in_ok-least-in-Some t c =
     let p = c.in-Some.poset.now in
     wrapped_least (finite.is_element p.order.table) (finite.is_below p.order.table) value.El c.args.types.now c.args.kind.now (kind.Fin c.in-Fin.k)
-    (embeds-Fin c.args.types.now c.in-Fin.k p (sym c.in-Some.ensures)) c.in-Fin.is c.elements.result _ c.elements.ensures c.in_ok-least-in-Some.ensures
+    (embeds-Fin c.args.types.now c.in-Fin.k p (sym c.in-Some.ensures)) c.in-Fin.is c.elements.result _ c.elements.ensures c.in_ok-least-in-Some.ensures.least
 
 pub least_of-returns-in_ok-least_rows-in-Prod : goal.least_of-returns-in_ok-least_rows-in-Prod
 least_of-returns-in_ok-least_rows-in-Prod t c =

@@ -1,5 +1,5 @@
 use Rattle.std.proofs.Common.{sym}
-use Rattle.value_type.specs.PortKinds.{fits_unequal}
+use Rattle.value_type.proofs.PortKindLemmas.{fits_unequal}
 use Rattle.value_type.proofs.port.ports_fit.Goals as goal
 
 pub returns-then-ports-values : goal.returns-then-ports-values

@@ -1,5 +1,5 @@
 use Rattle.std.proofs.Common.{sym}
-use Rattle.value_type.specs.PortKinds.{lower_unequal, upper_unequal}
+use Rattle.value_type.proofs.PortKindLemmas.{lower_unequal, upper_unequal}
 use Rattle.value_type.proofs.port.ports_leq.Goals as goal
 
 pub returns-then-ports-xs : goal.returns-then-ports-xs

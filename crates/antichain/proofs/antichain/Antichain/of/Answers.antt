@@ -2,8 +2,10 @@ use Rattle.std.proofs.Common.{◌≡◌, ◌∙◌, [], ap, sym, IsTrue, subst, 
 use Rattle.std.proofs.lemmas.Iterator.Adapters.{YieldsList-from_vec}
 use Rattle.std.proofs.lemmas.Iterator.Consumers.{YieldsList-end}
 use Rattle.std.proofs.lemmas.List.{map-id}
-use Rattle.order_core.specs.Members.{IsMember, all_elim}
-use Rattle.antichain.specs.Basis.{IsBasis, minimal_member, member_of_minimal}
+use Rattle.order_core.specs.Members.{IsMember}
+use Rattle.order_core.specs.MemberLaws.{all_elim}
+use Rattle.antichain.specs.Basis.{IsBasis}
+use Rattle.antichain.specs.BasisLaws.{minimal_member, member_of_minimal}
 use Rattle.antichain.specs.Minima.{inserted, inserted_all}
 use Rattle.antichain.proofs.MinimaLemmas.{inserted_all-snoc, inserted_all-minima}
 use Rattle.antichain.proofs.MinimaLaws.{minima_are}

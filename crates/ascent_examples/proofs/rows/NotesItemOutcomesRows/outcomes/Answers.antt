@@ -1,7 +1,8 @@
 use Rattle.std.proofs.Common.{◌≡◌, refl, subst, List}
 use Rattle.order_core.specs.Members.{IsMember}
 use Rattle.antichain.specs.Basis.{IsBasis}
-use Rattle.ascent_examples.specs.Rows.{ends_are, ends_basis, ends_from}
+use Rattle.ascent_examples.specs.Rows.{ends_from}
+use Rattle.ascent_examples.proofs.RowLemmas.{ends_are, ends_basis}
 use Rattle.ascent_examples.proofs.rows.NotesItemOutcomesRows.outcomes.Goals as goal
 
 pub of-requires-2 : goal.of-requires-2

@@ -2,11 +2,12 @@ use Rattle.std.proofs.Common.{◌≡◌, ◌∙◌, sym, subst, suc, true, false
 use Rattle.std.specs.List.{list_any}
 use Rattle.order_core.specs.Chains.{EndsChain}
 use Rattle.antichain.specs.Basis.{IsBasis, IsRaise}
+use Rattle.antichain.specs.CoverLaws.{cover_values}
 use Rattle.antichain.specs.Minima.{inserted_all}
 use Rattle.kleene_loop.specs.Ascent.{AreFound, FirstHas, IsRaisedBy, Moves}
 use Rattle.kleene_loop.specs.Held.{Held}
 use Rattle.kleene_loop.proofs.Answered.{kept_values}
-use Rattle.kleene_loop.proofs.AtFirst.{answered_goes, answered_stays, both_ok, first_found, first_goes, first_stays, first_value, map_ok, outcomes_are, raised_goes, raised_stays, raises_are}
+use Rattle.kleene_loop.proofs.AtFirst.{answered_goes, answered_stays, both_ok, first_found, first_goes, first_stays, first_value, map_ok, outcomes_are, raised_goes, raised_stays}
 use Rattle.kleene_loop.proofs.climb.Climb.answer.Goals as goal
 
 pub some_below-requires-clause-items_are_values : goal.some_below-requires-clause-items_are_values
@@ -52,7 +53,7 @@ keep-requires g c =
 pub remove_above_any-requires-clause-items_are_values : goal.remove_above_any-requires-clause-items_are_values
 remove_above_any-requires-clause-items_are_values g c =
     let s = c.self.inside in
-    raises_are (g.O.Order.is_value s.order) (g.O.Order.leq s.order) c.in-Some.point.now c.items-2.result.now c.in_ok-found.found.items c.in_ok-found.ensures
+    cover_values (g.O.Order.leq s.order) (g.O.Order.is_value s.order) (g.met.O.Order.laws s.order) _ (λ t r. r.value) c.in_ok-found.found.items c.in_ok-found.ensures
 
 pub remove_above_any-requires-clause-others_are_values : goal.remove_above_any-requires-clause-others_are_values
 remove_above_any-requires-clause-others_are_values g c =

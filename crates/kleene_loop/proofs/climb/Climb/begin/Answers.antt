@@ -1,5 +1,5 @@
 use Rattle.std.proofs.Common.{IsTrue}
-use Rattle.antichain.specs.Basis.{least_basis, member_of_minimal, minimal_member}
+use Rattle.antichain.specs.BasisLaws.{least_basis, member_of_minimal, minimal_member}
 use Rattle.kleene_loop.proofs.Steps.{begins}
 use Rattle.kleene_loop.proofs.climb.Climb.begin.Goals as goal
 

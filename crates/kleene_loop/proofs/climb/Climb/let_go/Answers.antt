@@ -1,6 +1,6 @@
 use Rattle.std.proofs.Common.{◌≡◌, ◌∷◌, List, inl, refl, subst, suc, sym}
 use Rattle.order_core.specs.Chains.{EndsChain}
-use Rattle.order_core.specs.Incomparable.{incomparable-left}
+use Rattle.order_core.specs.IncomparableLaws.{incomparable-left}
 use Rattle.order_core.specs.Members.{IsMember}
 use Rattle.kleene_loop.specs.Ascent.{AreFound, FirstHas, IsClimb}
 use Rattle.kleene_loop.specs.Held.{Held}

@@ -2,7 +2,7 @@ use Rattle.std.proofs.Common.{◌≡◌, IsTrue, arith}
 use Rattle.std.proofs.lemmas.Grind.{common_steps}
 use Rattle.std.specs.Prelude.{slice_get}
 use Rattle.std.specs.Option.{option_copied}
-use Rattle.order_core.specs.Incomparable.{incomparable-left}
+use Rattle.order_core.specs.IncomparableLaws.{incomparable-left}
 use Rattle.kleene_loop.proofs.Answered.{some_first, todo_least, todo_values}
 use Rattle.kleene_loop.proofs.climb.Climb.next.Goals as goal
 

@@ -1,6 +1,6 @@
 use Rattle.std.proofs.Common.{◌≡◌, ◌∙◌, ap}
 use Rattle.order_core.specs.Tuple.{product}
-use Rattle.order_core.specs.Products.{product_bounds}
+use Rattle.order_core.specs.ProductLaws.{product_bounds}
 use Rattle.order_core.proofs.tuple.TupleOrderOrder.bounds.Goals as goal
 
 pub returns : goal.returns

@@ -1,6 +1,6 @@
 use Rattle.std.proofs.Common.{◌≡◌, ℕ, List, ◌∷◌, []}
 use Rattle.std.proofs.lemmas.Result.{IfOk-weaker}
-use Rattle.order_core.specs.MinimalLaws.{minimal_bounds_upper}
+use Rattle.order_core.proofs.MinimalLaws.{minimal_bounds_upper}
 use Rattle.order_core.proofs.upper.UpperOrderOrder.bounds.Goals as goal
 
 pub returns-clause-bounds : goal.returns-clause-bounds

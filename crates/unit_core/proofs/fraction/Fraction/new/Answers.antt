@@ -1,6 +1,6 @@
 use Rattle.std.proofs.Common.{◌≡◌, ◌<◌, ℕ, ◌/◌, arith, sym, subst}
 use Rattle.unit_core.specs.Gcd.{gcd}
-use Rattle.unit_core.specs.Ratio.{lowest_is, divisor_pos}
+use Rattle.unit_core.specs.RatioLaws.{lowest_is, divisor_pos}
 use Rattle.unit_core.proofs.fraction.Fraction.new.Goals as goal
 
 pub nonzero_div-reduced_num : goal.nonzero_div-reduced_num

@@ -1,5 +1,6 @@
 use Rattle.std.proofs.Common.{◌∙◌, ◌-◌, ◌+◌, sym, arith}
-use Rattle.unit_core.specs.Measure.{measure, times_measure, steps-end, steps-err, steps-ok}
+use Rattle.unit_core.specs.Measure.{measure, times_measure}
+use Rattle.unit_core.proofs.MeasureLemmas.{steps-end, steps-err, steps-ok}
 use Rattle.unit_core.proofs.unit.Unit.multiplied.Goals as goal
 
 pub returns-in-Err : goal.returns-in-Err

@@ -1,5 +1,6 @@
 use Rattle.std.proofs.Math.Nat.{one-le-mul}
-use Rattle.unit_core.specs.Ratio.{ratio, over_ratio, quotient-num_pos}
+use Rattle.unit_core.specs.Ratio.{ratio, over_ratio}
+use Rattle.unit_core.proofs.RatioLemmas.{quotient-num_pos}
 use Rattle.unit_core.proofs.unit.Unit.over.Goals as goal
 
 pub invariant_of-result : goal.invariant_of-result

@@ -1,5 +1,6 @@
 use Rattle.std.proofs.Common.{◌≡◌, sym}
-use Rattle.unit_core.specs.Measure.{measure, one, power-one}
+use Rattle.unit_core.specs.Measure.{measure, one}
+use Rattle.unit_core.proofs.MeasureLemmas.{power-one}
 use Rattle.unit_core.proofs.unit.Unit.power.Goals as goal
 
 pub returns-then-is_one : goal.returns-then-is_one

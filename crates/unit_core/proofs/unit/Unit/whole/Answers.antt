@@ -1,5 +1,5 @@
 use Rattle.std.proofs.Common.{arith}
-use Rattle.unit_core.specs.Gcd.{gcd-one_right}
+use Rattle.unit_core.specs.GcdLaws.{gcd-one_right}
 use Rattle.unit_core.proofs.unit.Unit.whole.Goals as goal
 
 pub invariant_of-size : goal.invariant_of-size
