@@ -4,5 +4,4 @@ pub mod MinimaLaws
 pub mod MinimaLemmas
 pub mod Ordered
 pub mod Raises
-pub mod Results
 pub mod Swept

@@ -5,25 +5,18 @@ use Rattle.std.proofs.lemmas.List.Elements.{filter-append}
 use Rattle.std.proofs.lemmas.List.Folds.{list_any-append}
 use Rattle.order_core.specs.Order.{IsOrder, are_incomparable}
 use Rattle.order_core.specs.Members.{IsMember}
-use Rattle.order_core.specs.MemberLaws.{first, second, any_elim, any_intro, all_elim, append_nil}
+use Rattle.order_core.specs.MemberLaws.{first, second, any_elim, any_intro, all_elim, append_nil, filter_same}
 use Rattle.order_core.specs.IncomparableLaws.{one_of}
 use Rattle.antichain.specs.Minima.{is_less, kept, minima, inserted, inserted_all}
 use Rattle.antichain.specs.ListLaws.{inserted_incomparable, inserted_values}
+use Rattle.std.proofs.Math.Bool.{or-true, or-false}
 
 pub inserted_all-snoc : {A : Type 0} (leq : A → A → Bool) (members xs : List A) (x : A)
     → inserted_all leq members (xs ++ x ∷ []) ≡ inserted leq (inserted_all leq members xs) x
 inserted_all-snoc leq members [] x = refl
 inserted_all-snoc leq members (y ∷ xs) x = inserted_all-snoc leq (inserted leq members y) xs x
 
-or_true : (b : Bool) → b || true ≡ true
-or_true true = refl
-or_true false = refl
-
 -- two filters agree where their tests agree on the items
-pub filter_same : {A : Type 0} (p q : A → Bool) (xs : List A) → ((m : A) → IsMember m xs → p m ≡ q m) → filter p xs ≡ filter q xs
-filter_same p q [] h = refl
-filter_same p q (x ∷ xs) h = rw (h x (inl refl), filter_same p q xs (λ m k. h m (inr k)))
-
 pub filter_all : {A : Type 0} (xs : List A) → filter (λ m. true) xs ≡ xs
 filter_all [] = refl
 filter_all (x ∷ xs) = ap (λ ys. x ∷ ys) (filter_all xs)
@@ -46,10 +39,6 @@ any_filtered {A = A} p q (x ∷ xs) h = go (q x) (p x) refl refl (any_filtered p
     go true c e f ih = ap (λ b. p x || b) ih
     go false false e f ih = rw f ih
     go false true e f ih = let yes : q x ≡ true = h x (inl refl) f in absurd (cc)
-
-or_false : (b : Bool) → b || false ≡ b
-or_false true = refl
-or_false false = refl
 
 module _ {A : Type 0} (is_value : A → Bool) (leq : A → A → Bool) (laws : IsOrder is_value leq) where
   -- no item of xs is strictly below m
@@ -121,9 +110,9 @@ module _ {A : Type 0} (is_value : A → Bool) (leq : A → A → Bool) (laws : I
                   let xz : leq x z ≡ true = laws.transitive x m z x_is (all_elim is_value members m members_are k) zv f h in absurd (cc)
 
           go : (b : Bool) → leq x z ≡ b → list_any (λ y. leq y z) (filter (λ m. not (leq x m)) members ++ x ∷ []) ≡ (leq x z || list_any (λ y. leq y z) before)
-          go true e = rw (list_any-append (λ y. leq y z) (filter (λ m. not (leq x m)) members) (x ∷ []), e) (or_true (list_any (λ y. leq y z) (filter (λ m. not (leq x m)) members)))
+          go true e = rw (list_any-append (λ y. leq y z) (filter (λ m. not (leq x m)) members) (x ∷ []), e) (or-true (list_any (λ y. leq y z) (filter (λ m. not (leq x m)) members)))
           go false e = rw (list_any-append (λ y. leq y z) (filter (λ m. not (leq x m)) members) (x ∷ []), e, any_filtered (λ y. leq y z) (λ m. not (leq x m)) members (passes e))
-              (or_false (list_any (λ y. leq y z) members) ∙ decides z zv)
+              (or-false (list_any (λ y. leq y z) members) ∙ decides z zv)
 
   -- Inserting the items in turn leaves the members that survive, and keeps what is to be kept.
   inserts : (xs members before : List A) → IsTrue (list_all is_value xs) → IsTrue (list_all is_value members) → IsTrue (are_incomparable leq members) → Decides members before

@@ -4,11 +4,11 @@ use Rattle.std.specs.List.{list_all, list_any}
 use Rattle.std.proofs.lemmas.List.{take_more}
 use Rattle.order_core.specs.Order.{IsOrder}
 use Rattle.order_core.specs.Members.{IsMember}
-use Rattle.order_core.specs.MemberLaws.{first, second, both, all_at, none_elim}
+use Rattle.order_core.specs.MemberLaws.{first, second, both, all_at, none_elim, filter_same}
 use Rattle.antichain.specs.Basis.{AreApart}
 use Rattle.antichain.specs.InsertedLaws.{all_apart, all_from}
 use Rattle.antichain.specs.Minima.{is_less, are_in_order, inserted, inserted_all}
-use Rattle.antichain.proofs.MinimaLemmas.{filter_all, filter_same, inserted_all-snoc}
+use Rattle.antichain.proofs.MinimaLemmas.{filter_all, inserted_all-snoc}
 
 -- the first items of a list of values
 pub all-take : {A : Type 0} (p : A → Bool) (n : ℕ) (xs : List A) → IsTrue (list_all p xs) → IsTrue (list_all p (take n xs))

@@ -6,6 +6,3 @@ mod rows;
 
 pub use driver::{Outcomes, ascend};
 pub use rows::{Notes, Rows, Step, ascend_by_rows};
-
-#[cfg(test)]
-mod tests;

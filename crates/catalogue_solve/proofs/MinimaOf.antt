@@ -1,5 +1,5 @@
 -- The minimal rows of a sorted list, and of a list in whichever order it stands.
-use Rattle.std.proofs.Common.{◌≡◌, ◌↔◌, Bool, IsTrue, List, [], Result, Ok, Err, IfOk}
+use Rattle.std.proofs.Common.{◌≡◌, ◌↔◌, Bool, IsTrue, List, []}
 use Rattle.std.specs.List.Sorted.{IsPermutation}
 use Rattle.antichain.specs.Basis.{IsBasis}
 use Rattle.antichain.specs.Minima.{minima}
@@ -10,10 +10,6 @@ use Rattle.order_core.specs.PermutationLaws.{members_permuted, members_before}
 use Rattle.value_type.specs.declared.value.Value.{Value}
 use Rattle.catalogue_solve.specs.Enough.{AreSortedMinima}
 use Rattle.catalogue_solve.proofs.Rising.{are_sorted, kept_rising}
-
-pub if_ok : {A E : Type 0} (P Q : A → Type 0) (r : Result A E) → ((x : A) → P x → Q x) → IfOk r P → IfOk r Q
-if_ok P Q (Ok x) f h = f x h
-if_ok P Q (Err e) f h = tt
 
 module _ (leq : List Value → List Value → Bool) where
   pub sorted_minima : (rows made : List (List Value)) → ((x : List Value) → IsMember x rows → IsTrue (leq x x)) → made ≡ minima leq rows → ((x : List Value) → IsMember x made ↔ IsMinimal leq (λ y. IsMember y rows) x)

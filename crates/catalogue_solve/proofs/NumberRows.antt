@@ -7,7 +7,7 @@ use Rattle.std.specs.Ordering.{is_lt, nat_cmp, ordering_then}
 use Rattle.std.specs.declared.cmp.Ordering.{Ordering}
 use Rattle.std.specs.declared.cmp.Ordering.TheVariants.{Less, Equal, Greater}
 use Rattle.order_core.specs.Members.{IsMember}
-use Rattle.order_core.specs.MemberLaws.{first, second, both, all_elim, all_intro, decide}
+use Rattle.order_core.specs.MemberLaws.{first, second, both, all_elim, all_intro, decide, not_both}
 use Rattle.antichain.specs.Minima.{is_less, are_in_order, hands_on, each_hands_on}
 use Rattle.value_type.specs.declared.kind.Kind.{Kind, out-Kind}
 use Rattle.value_type.specs.declared.kind.Kind.TheFolds.{fold_out-Kind}
@@ -67,12 +67,8 @@ module _ (t : Types) where
     not_less : (x y : List Value) → IsTrue (row_leq t kinds x x) → IsTrue (not (is_before y x)) → IsTrue (not (is_less (row_leq t kinds) y x))
     not_less x y self h = go (decide (row_leq t kinds y x))
       where
-        clash : (b : Bool) → IsTrue (not b) → b ≡ true → ⊥
-        clash true p q = cc
-        clash false p q = cc
-
         same : IsNotAfter (row_cmp y x) → IsTrue (row_leq t kinds x y)
-        same (inl e) = absurd (clash (is_before y x) h (ap is_lt e))
+        same (inl e) = absurd (not_both (is_before y x) h (ap is_lt e))
         same (inr e) = subst (λ (z : List Value). IsTrue (row_leq t kinds x z)) (sym (row_same y x e)) self
 
         go : IsTrue (row_leq t kinds y x) ⊎ (row_leq t kinds y x ≡ false) → IsTrue (not (is_less (row_leq t kinds) y x))
@@ -152,16 +148,12 @@ module _ (t : Types) (j k : Kind) (numbers : IsTrue (are_numbers (j ∷ k ∷ []
   heads a b p q h =
       go (number_first (out-Value p.one) (out-Value q.one) (is_count j p.one (first _ _ numbers) p.one_fits) (is_count j q.one (first _ _ numbers) q.one_fits))
     where
-      clash : (s : Bool) → IsTrue (not s) → s ≡ true → ⊥
-      clash true u v = cc
-      clash false u v = cc
-
       before : value_cmp q.one p.one ≡ Less → IsTrue (is_before b a)
       before e = rw (p.is, q.is, e) refl
 
       go : IsTrue (number_leq (out-Value p.one) (out-Value q.one)) ⊎ (cmp_step (map-Value Value (Value → Ordering) value_cmp (out-Value q.one)) (out-Value p.one) ≡ Less) → IsTrue (leq t j p.one q.one)
       go (inl l) = leq_numbers t j p.one q.one (first _ _ numbers) ∙ l
-      go (inr e) = absurd (clash (is_before b a) h (before (by_layers q.one p.one ∙ e)))
+      go (inr e) = absurd (not_both (is_before b a) h (before (by_layers q.one p.one ∙ e)))
 
   triple : (a b x : List Value) → Fits a → Fits b → Fits x → IsTrue (not (is_before b a)) → IsTrue (not (is_before x b)) → IsTrue (not (Leq a x) || Leq a b || Leq b x)
   triple a b x fa fb fx ab bx = go (decide (Leq a x)) (seconds p.two q.two p.two_fits q.two_fits)

@@ -9,7 +9,7 @@ use Rattle.std.proofs.lemmas.List.Sorted.{sorted_far}
 use Rattle.std.proofs.lemmas.List.Sums.{list_all-from_AllPass}
 use Rattle.value_type.specs.declared.value.Value.{Value}
 use Rattle.order_core.specs.Members.{IsMember}
-use Rattle.order_core.specs.MemberLaws.{first, second, both, all_intro, all_elim}
+use Rattle.order_core.specs.MemberLaws.{first, second, both, all_intro, all_elim, true_not, not_both}
 use Rattle.antichain.specs.Minima.{is_less, kept}
 use Rattle.value_type.specs.PrintOrder.{row_cmp, is_before, are_rising}
 use Rattle.order_core.specs.TotalOrderLaws.{weak}
@@ -20,14 +20,10 @@ abbrev pub are_sorted : List (List Value) → Bool
 are_sorted [] = true
 are_sorted (x ∷ xs) = list_all (λ z. not (is_before z x)) xs && are_sorted xs
 
-not_of : (b : Bool) → b ≡ false → not b ≡ true
-not_of true h = absurd (cc)
-not_of false h = refl
-
 sorted_at : (xs : List (List Value)) → ((i j : ℕ) (d : List Value) → i ≤ j → j < length xs → is_before (get_or xs j d) (get_or xs i d) ≡ false) → IsTrue (are_sorted xs)
 sorted_at [] h = refl
 sorted_at (x ∷ xs) h = both _ _
-    (list_all-from_AllPass (λ z. not (is_before z x)) xs (λ k d inside. not_of _ (h 0 (suc k) d (omega arith) (omega arith))))
+    (list_all-from_AllPass (λ z. not (is_before z x)) xs (λ k d inside. true_not _ (h 0 (suc k) d (omega arith) (omega arith))))
     (sorted_at xs (λ i j d le inside. h (suc i) (suc j) d (omega arith) (omega arith)))
 
 pub sorted_pairs : (xs : List (List Value)) → IsSortedBy is_before xs → IsTrue (are_sorted xs)
@@ -61,14 +57,10 @@ module _ (leq : List Value → List Value → Bool) where
   ahead : (x z : List Value) → IsTrue (not (is_before z x)) → (x ≡ z → ⊥) → IsTrue (is_before x z)
   ahead x z h differ = go (row_cmp x z) refl
     where
-      clash : (b : Bool) → IsTrue (not b) → b ≡ true → ⊥
-      clash true p q = cc
-      clash false p q = cc
-
       go : (o : Ordering) → row_cmp x z ≡ o → IsTrue (is_lt (row_cmp x z))
       go Less e = ap is_lt e
       go Equal e = absurd (differ (row_same x z e))
-      go Greater e = absurd (clash (is_before z x) h (ap is_lt (row_total.antisymm z x ∙ ap ordering_reverse e)))
+      go Greater e = absurd (not_both (is_before z x) h (ap is_lt (row_total.antisymm z x ∙ ap ordering_reverse e)))
 
   pub kept_rising : (before xs : List (List Value)) → ((x : List Value) → IsMember x xs → IsTrue (leq x x)) → IsTrue (are_sorted xs) → IsTrue (are_rising (kept leq before xs))
   kept_rising before [] r h = refl

@@ -2,7 +2,5 @@
 #![tactic(auto)]
 
 mod minimal;
-#[cfg(test)]
-mod tests;
 
 pub use minimal::minimal_rows;

@@ -10,7 +10,7 @@ use Rattle.cut_plan.specs.OrderLaws.{Once, without_length, still_without, once_f
 use Rattle.design_model.specs.Evaluation.{without}
 use Rattle.design_model.specs.Heights.{different, is_same, is_zero, count_numbers}
 use Rattle.design_model.specs.ValueOf.{number_at}
-use Rattle.order_core.specs.MemberLaws.{any_elim, any_intro}
+use Rattle.order_core.specs.MemberLaws.{any_elim, any_intro, contains_member, member_contained}
 use Rattle.order_core.specs.Members.{IsMember}
 use Rattle.order_core.specs.declared.num.Num.TheVariants as number
 use Rattle.order_core.specs.declared.num.Num.{Num as Number}
@@ -126,18 +126,10 @@ differ_once (x ∷ xs) = at (list_any (λ y. x == y) xs) refl (differ_once xs)
     at true e ih = ih
     at false e ih = ((λ m. let yes : list_any (λ y. x == y) xs ≡ true = any_intro (λ y. x == y) xs x (differ_member xs x m) (eq-eqb x x refl) in cc), ih)
 
-contains_member : (xs : List ℕ) (p : ℕ) → Contains xs p → IsMember p xs
-contains_member xs p h = rw (← h.2) (item_at xs h.0 p h.1)
-
-member_contains : (xs : List ℕ) (p : ℕ) → IsMember p xs → Contains xs p
-member_contains [] p m = absurd m
-member_contains (x ∷ xs) p (inl e) = (0, omega arith, sym e)
-member_contains (x ∷ xs) p (inr m) = let k = member_contains xs p m in (suc k.0, omega (arith, k.1), k.2)
-
 rising_once : (xs : List ℕ) → ((i j : ℕ) (d : ℕ) → i < j → j < length xs → get_or xs i d < get_or xs j d) → Once xs
 rising_once [] h = tt
 rising_once (x ∷ xs) h = (
-  (λ m. let k = member_contains xs x m in let more : x < get_or xs k.0 x = h 0 (suc k.0) x (omega arith) (omega (arith, k.1)) in omega (arith, more, k.2)),
+  (λ m. let k = contains_member xs x m in let more : x < get_or xs k.0 x = h 0 (suc k.0) x (omega arith) (omega (arith, k.1)) in omega (arith, more, k.2)),
   rising_once xs (λ i j d a b. h (suc i) (suc j) d (omega arith) (omega arith)),
 )
 
@@ -148,9 +140,9 @@ counted values rising rises keeps adds =
     let ns = filter_map (λ v. number_at (out-Value v)) values in
     let once = rising_once rising (AllPairs-from_increasing rising rises) in
     let fewer = no_longer rising (different_counts (counts values)) once (differ_once (counts values))
-    (λ p m. member_differs (counts values) p (contains_member (counts values) p (adds p (member_contains rising p m)))) in
+    (λ p m. member_differs (counts values) p (member_contained (counts values) p (adds p (contains_member rising p m)))) in
     let more = no_longer (different_counts (counts values)) rising (differ_once (counts values)) once
-    (λ p m. contains_member rising p (keeps p (member_contains (counts values) p (differ_member (counts values) p m)))) in
+    (λ p m. member_contained rising p (keeps p (contains_member (counts values) p (differ_member (counts values) p m)))) in
     let all : count_numbers values ≡ length (different_counts (counts values)) + cond (list_any (λ v. is_top (out-Value v)) values) 1 0
     = rw (counts_are values, tops_are values) (many_different ns) in
     omega (arith, fewer, more, all)

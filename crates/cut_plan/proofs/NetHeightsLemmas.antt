@@ -4,8 +4,8 @@ use Rattle.std.proofs.Math.Seq.{drop-cons}
 use Rattle.std.proofs.lemmas.List.Elements.{filter-append}
 use Rattle.std.proofs.lemmas.List.{map-append, length-map}
 use Rattle.std.specs.List.{flat_map, enumerate_from}
-use Rattle.std.specs.Prelude.{◌≡◌, ℕ, zero, suc, ◌+◌, ◌<◌, Bool, true, false, cond, List, [], ◌∷◌, ◌++◌, map, filter, Option, Some, None, slice_get, length, drop, get_or}
-use Rattle.cut_plan.proofs.SignalLemmas.{filter_same, part_within}
+use Rattle.std.specs.Prelude.{◌≡◌, ℕ, zero, suc, ◌+◌, ◌<◌, Bool, true, false, cond, List, [], ◌∷◌, ◌++◌, map, filter, Option, Some, None, slice_get, length, drop, get_or, option_map}
+use Rattle.cut_plan.proofs.SignalLemmas.{part_within}
 use Rattle.cut_plan.proofs.SumLaws.{sum_append}
 use Rattle.cut_plan.specs.CutReads.{is_listed}
 use Rattle.cut_plan.specs.Cutting.{ListsCuts}
@@ -15,7 +15,7 @@ use Rattle.cut_plan.specs.Totals.{column, height_if, port_heights, all_heights, 
 use Rattle.cut_plan.specs.declared.reads.Signal.{Signal}
 use Rattle.design_model.specs.Cuts.{Signal as Typed, signals_of, all_signals, is_cut, cut_signals}
 use Rattle.design_model.specs.Heights.{Survey, survey, survey_step, surveyed, sum_all, height, values_at}
-use Rattle.design_model.specs.HeightsLaws.{of_part}
+use Rattle.design_model.specs.HeightsLaws.{of_part, required_surveyed}
 use Rattle.design_model.specs.Parts.{required_at, required_ports}
 use Rattle.design_model.specs.declared.design.Design.TheOpen.{Design-F}
 use Rattle.design_model.specs.declared.design.Design.{Design, fold_out-Design, map-Design, out-Design}
@@ -26,18 +26,12 @@ use Rattle.value_type.specs.PortKinds.{port_kinds}
 use Rattle.value_type.specs.declared.kind.Kind.{Kind}
 use Rattle.value_type.specs.declared.port.Port.{Port}
 use Rattle.value_type.specs.declared.poset.Types.{Types}
-
-pub survey_required : (t : Types) (d : Design) → (survey t d).required ≡ port_kinds (required_ports d)
-survey_required t d = ap (λ (s : Survey). s.required) (fold_out-Design Survey Survey (survey_step t) (λ p. p.design) d) ∙ at (out-Design d)
-  where
-    at : (x : Design-F Design Part) → (survey_step t (map-Design Design Part Survey Survey (survey t) (fold-Part Survey Survey (survey_step t) (λ p. p.design)) x)).required ≡ port_kinds (required_at x)
-    at (Design-F.Cat provides requires_ rows) = refl
-    at (Design-F.Choice provides requires_ branches) = refl
-    at (Design-F.Net provides requires_ parts constraints) = refl
+use Rattle.order_core.specs.MemberLaws.{filter_same}
+use Rattle.std.proofs.lemmas.Option.{slice_get-map}
 
 kinds_are : (t : Types) (parts : List Part) → map (λ (s : Survey). s.required) (map (of_part t) parts) ≡ map kinds_required parts
 kinds_are t [] = refl
-kinds_are t (p ∷ parts) = rw (survey_required t p.design, kinds_are t parts) refl
+kinds_are t (p ∷ parts) = rw (required_surveyed t p.design, kinds_are t parts) refl
 
 plus_zero : (o : Option ℕ) → plus (Some 0) o ≡ o
 plus_zero None = refl
@@ -81,11 +75,6 @@ module _ (t : Types) (surveys : List Survey) (cut : List Signal) where
         of_parts (start + 1) parts later,
       ) refl
 
-got_map : {A B : Type 0} (f : A → B) (xs : List A) (k : ℕ) (x : A) → slice_get xs k ≡ Some x → slice_get (map f xs) k ≡ Some (f x)
-got_map f [] k x e = absurd (cc)
-got_map f (y ∷ ys) zero x e = let same : y ≡ x = cc in ap (λ z. Some (f z)) same
-got_map f (y ∷ ys) (suc k) x e = got_map f ys k x e
-
 pub heights_are : (t : Types) (provides requires_ : List Port) (parts : List Part) (constraints : List Constraint) (cut : List Signal) → ListsCuts constraints (length parts) cut
     → sum_all (all_heights t cut 0 parts) ≡ height_by t provides requires_ parts constraints
 heights_are t provides requires_ parts constraints cut h =
@@ -96,7 +85,7 @@ heights_are t provides requires_ parts constraints cut h =
     let agree : (s : Typed) → IsMember s (all_signals net.required) → is_cut net s ≡ passes cut s
     = λ s m. h net refl many s (omega (arith, part_within net.required s m, length-map surveys (λ (s : Survey). s.required), length-map parts (of_part t))) in
     let cuts : cut_signals net ≡ filter (passes cut) (all_signals (map kinds_required parts)) = filter_same (is_cut net) (passes cut) (all_signals net.required) agree ∙ ap (λ ks. filter (passes cut) (all_signals ks)) required in
-    of_parts t surveys cut 0 parts (λ k p e. ap (slice_get surveys) (omega arith) ∙ got_map (of_part t) parts k p e) ∙ ap (λ ss. sum_all (map (λ s. height t s.kind (values_at surveys s)) ss)) (sym cuts)
+    of_parts t surveys cut 0 parts (λ k p e. ap (slice_get surveys) (omega arith) ∙ (slice_get-map (of_part t) parts k ∙ ap (option_map (of_part t)) e)) ∙ ap (λ ss. sum_all (map (λ s. height t s.kind (values_at surveys s)) ss)) (sym cuts)
 
 pub parts_step : (t : Types) (cut : List Signal) (parts : List Part) (i : ℕ) (p : Part) → i < length parts → p ≡ get_or parts i p
     → all_heights t cut i (drop i parts) ≡ port_heights t p.design cut i 0 (required_ports p.design) ++ all_heights t cut (i + 1) (drop (i + 1) parts)

@@ -13,6 +13,7 @@ use Rattle.design_model.specs.declared.expr.Expr.TheFolds.{ind-Expr}
 use Rattle.design_model.specs.declared.expr.Expr.TheOpen.{Expr-F}
 use Rattle.design_model.specs.declared.expr.Expr.TheVariants as expr
 use Rattle.design_model.specs.declared.expr.Expr.{Expr, fold_out-Expr, roll-Expr, map-Expr}
+use Rattle.std.proofs.Math.Bool.{or-false}
 
 flat_is : (parts : List Expr) → flat_map (λ part. part) (map read_by parts) ≡ flat_map read_by parts
 flat_is [] = refl
@@ -53,10 +54,6 @@ pub any_append : {A : Type 0} (p : A → Bool) (xs ys : List A) → list_any p (
 any_append p [] ys = refl
 any_append p (x ∷ xs) ys = ap (λ b. p x || b) (any_append p xs ys) ∙ sym (or_assoc (p x) (list_any p xs) (list_any p ys))
 
-or_false : (b : Bool) → b || false ≡ b
-or_false true = refl
-or_false false = refl
-
 module _ (test : ℕ → ℕ → Bool) where
   abbrev Said : Expr → Type 0
   Said e = reads_some test e ≡ any_of test (read_by e)
@@ -73,7 +70,7 @@ module _ (test : ℕ → ℕ → Bool) where
 
   at : (y : Expr-F Claimed) → Said (roll-Expr (map-Expr Claimed Expr (λ e. e.0) y))
   at (Expr-F.Own j) = subst Said (sym (expr.rolls-Own j)) (rw (reads-Own, by-Own) refl)
-  at (Expr-F.Inner i j) = subst Said (sym (expr.rolls-Inner i j)) (rw (reads-Inner, by-Inner) (sym (or_false (test i j))))
+  at (Expr-F.Inner i j) = subst Said (sym (expr.rolls-Inner i j)) (rw (reads-Inner, by-Inner) (sym (or-false (test i j))))
   at (Expr-F.Constant v) = subst Said (sym (expr.rolls-Constant v)) (rw (reads-Constant, by-Constant) refl)
   at (Expr-F.Scale by a) = subst Said (sym (expr.rolls-Scale by a.0)) (rw (reads-Scale, by-Scale) a.1)
   at (Expr-F.Sum a b) = subst Said (sym (expr.rolls-Sum a.0 b.0)) (rw (reads-Sum, by-Sum) (two a b))

@@ -25,19 +25,11 @@ use Rattle.design_model.specs.declared.design.Part.{Part}
 use Rattle.design_model.specs.declared.expr.Constraint.{Constraint}
 use Rattle.design_model.specs.declared.expr.Greater.TheVariants as greater
 use Rattle.design_model.specs.declared.expr.Greater.{Greater}
-use Rattle.order_core.specs.MemberLaws.{first, second, both, any_elim, any_intro, mem-filter, filter-mem, mem-left, mem-right, mem-split, mem-map, mem-flat_map}
+use Rattle.order_core.specs.MemberLaws.{first, second, both, any_elim, any_intro, mem-filter, filter-mem, mem-left, mem-right, mem-split, mem-map, mem-flat_map, filter_same, any_same}
 use Rattle.order_core.specs.Members.{IsMember}
 use Rattle.value_type.specs.PortKinds.{port_kinds}
 use Rattle.value_type.specs.declared.kind.Kind.{Kind}
 use Rattle.value_type.specs.declared.port.Port.{Port}
-
-pub filter_same : {A : Type 0} (p q : A → Bool) (xs : List A) → ((x : A) → IsMember x xs → p x ≡ q x) → filter p xs ≡ filter q xs
-filter_same p q [] h = refl
-filter_same p q (x ∷ xs) h = rw (h x (inl refl), filter_same p q xs (λ y m. h y (inr m))) refl
-
-any_same : {A : Type 0} (p q : A → Bool) (xs : List A) → ((x : A) → IsMember x xs → p x ≡ q x) → list_any p xs ≡ list_any q xs
-any_same p q [] h = refl
-any_same p q (x ∷ xs) h = rw (h x (inl refl), any_same p q xs (λ y m. h y (inr m))) refl
 
 pub table_length : (constraints : List Constraint) (start n : ℕ) → length (table_from constraints start n) ≡ n
 table_length constraints start zero = refl

@@ -61,18 +61,6 @@ sum_append (Some a ∷ xs) ys = rw (sum_append xs ys) (at (sum_all xs) (sum_all 
 pub sum_joined : (total : ℕ) (xs ys : List (Option ℕ)) → sum_from total (xs ++ ys) ≡ sum_from total (sum_all xs ∷ ys)
 sum_joined total xs ys = ap (λ o. clipped (option_map (λ b. total + b) o)) (sum_append xs ys)
 
-pub height-Num : (t : Types) (dim : _) (values : Option (List Value)) → height t (kind.Num dim) values ≡ option_map count_numbers values
-height-Num t dim values = rw (fold_out-Kind, kind.outs-Num) refl
-
-pub height-Fin : (t : Types) (k : ℕ) (values : Option (List Value)) → height t (kind.Fin k) values ≡ option_map (λ p. size p - 1) (slice_get t.posets k)
-height-Fin t k values = rw (fold_out-Kind, kind.outs-Fin) refl
-
-pub height-Prod : (t : Types) (kinds : List Kind) (values : Option (List Value)) → height t (kind.Prod kinds) values ≡ sum_all (part_heights 0 (map (height t) kinds) values)
-height-Prod t kinds values = rw (fold_out-Kind, kind.outs-Prod) refl
-
-pub height-Up : (t : Types) (k : ℕ) (values : Option (List Value)) → height t (kind.Up k) values ≡ option_map size (slice_get t.posets k)
-height-Up t k values = rw (fold_out-Kind, kind.outs-Up) refl
-
 pub heights_step : (t : Types) (kinds : List Kind) (i : ℕ) (k : Kind) (values : Option (List Value)) → i < length kinds → k ≡ get_or kinds i k
     → part_heights i (map (height t) (drop i kinds)) values ≡ height t k (option_map (parts_at i) values) ∷ part_heights (i + 1) (map (height t) (drop (i + 1) kinds)) values
 heights_step t kinds i k values h e = rw (add-one, drop-cons kinds i k h, ← e) (ap (λ n. height t k (option_map (parts_at i) values) ∷ part_heights n (map (height t) (drop (suc i) kinds)) values) (add-one i))

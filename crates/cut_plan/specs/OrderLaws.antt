@@ -3,11 +3,12 @@ use Rattle.std.proofs.Common.{refl, sym, ap, inl, inr, arith}
 use Rattle.std.proofs.lemmas.Bool.{cases_eq}
 use Rattle.std.specs.Prelude.{◌≡◌, ◌≢◌, ◌⊎◌, ℕ, zero, suc, ◌+◌, ◌<◌, ◌≤◌, Bool, true, false, not, cond, ◌==◌, List, [], ◌∷◌, length, get_or, filter}
 use Rattle.cut_plan.specs.OrderOf.{IsOrderOf}
-use Rattle.cut_plan.specs.TurnLaws.{next_member, is_other, is_itself, many_numbers}
+use Rattle.cut_plan.specs.TurnLaws.{next_member, is_other, is_itself}
 use Rattle.design_model.specs.Evaluation.{next, without, turns, numbers_from, evaluation_order, part_reads}
 use Rattle.design_model.specs.Wiring.{Wiring}
 use Rattle.order_core.specs.MemberLaws.{mem-filter, filter-mem}
 use Rattle.order_core.specs.Members.{IsMember}
+use Rattle.design_model.specs.EvaluationLaws.{many_numbers}
 
 -- No item of the list occurs twice.
 abbrev pub Once : List ℕ → Type 0

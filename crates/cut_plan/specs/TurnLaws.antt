@@ -20,7 +20,3 @@ next_member r (x ∷ left) h = at (filter (is_ready r (x ∷ left)) (x ∷ left)
     at : (some : List ℕ) → ((w : ℕ) → IsMember w some → IsMember w (x ∷ left)) → IsMember (first_or x some) (x ∷ left)
     at [] k = inl refl
     at (y ∷ some) k = k y (inl refl)
-
-pub many_numbers : (start n : ℕ) → length (numbers_from start n) ≡ n
-many_numbers start zero = refl
-many_numbers start (suc n) = ap suc (many_numbers (start + 1) n)

@@ -1,5 +1,5 @@
 ghost use Rattle.std.specs.Prelude.{◌≡◌, ◌<◌, ◌^◌, map, length, IsTrue, IfOk};
-ghost use Rattle.std.specs.List.{All};
+ghost use Rattle.order_core.specs.Pointwise.{Each};
 ghost use Rattle.order_core.specs.Pointwise.{Each};
 ghost use Rattle.cut_plan.specs.CutReads.{signal_at};
 ghost use Rattle.cut_plan.specs.Cutting.{ListsCuts};
@@ -72,7 +72,7 @@ pub fn plan_of(alloc: Global, constraints: &[Constraint], count: usize) -> Resul
 
 /// The same numbers.
 fn in_32_bits(alloc: Global, numbers: &[usize]) -> Result<List<u32>, NoMemory>
-    requires { All (λ p. p < 2 ^ 32) numbers.now }
+    requires { Each (λ p. p < 2 ^ 32) numbers.now }
     ensures { IfOk result (λ made. made ≡ numbers.now) }
 {
     let mut made = Vec::new(alloc);

@@ -15,6 +15,3 @@ pub use cuts::{Cuts, cuts_of};
 pub use laws::{order_takes_each_part_once, typed_nets_are_few};
 pub use reads::Signal;
 pub use rounds::rounds_enough;
-
-#[cfg(test)]
-mod tests;

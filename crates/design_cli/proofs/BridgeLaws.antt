@@ -9,7 +9,7 @@ use Rattle.design_world.specs.declared.world.Content.{Content}
 use Rattle.design_world.specs.declared.world.Content.TheVariants.{Whole, Longer}
 use Rattle.design_world.specs.Files.{File, GivesContent, GivesFile, first_named, names_of}
 use Rattle.order_core.specs.Members.{IsMember}
-use Rattle.order_core.specs.MemberLaws.{first, second, all_elim, mem-map, map-mem, mem-filter, filter-mem, mem-right, mem-split}
+use Rattle.order_core.specs.MemberLaws.{first, second, all_elim, mem-map, map-mem, mem-filter, filter-mem, mem-right, mem-split, true_not}
 use Rattle.design_cli.specs.declared.library.NamedDesign.{NamedDesign}
 use Rattle.design_cli.specs.declared.library.FileRead.{FileRead}
 use Rattle.design_cli.specs.ByteOrder.{is_before}
@@ -20,8 +20,10 @@ use Rattle.plain_form.specs.Names.{is_name, is_recognised}
 use Rattle.plain_form.specs.Texts.{before_text}
 use Rattle.design_cli.proofs.FoundLaws.{found_written, written_whole}
 use Rattle.design_cli.proofs.NameCounts.{times, in_order, sorted_order, ahead_of_all, stands_once, stands_twice, times_listed, never_itself}
-use Rattle.order_core.specs.PermutationLaws.{members_permuted, members_before, member_from_all}
+use Rattle.order_core.specs.PermutationLaws.{members_permuted, members_before}
 use Rattle.plain_form.specs.TextLaws.{before_append, before_some, same_bytes, bytes_same}
+use Rattle.std.proofs.lemmas.Bool.{false_from_ne_true}
+use Rattle.order_core.specs.PointwiseLaws.{each_got}
 
 -- how many files have the name, by their names
 named_times : (name : List ℕ) (files : List File) → times_named files name ≡ times name (names_of files)
@@ -75,7 +77,7 @@ module _ (files : List File) (reads : List FileRead) (listed : AreListed files (
   gives : (read : FileRead) (file : File) → IsMember read reads → IsMember file files → file.name ≡ read.name → times_named files read.name ≡ 1 → GivesFile (Some file) 1048576 read.content
   gives read file m k e once =
       let found : first_named files read.name ≡ Some file = found_once (λ file. bytes_eq read.name file.name) files file once k (rw e (bytes_same read.name)) in
-      subst (λ (o : Option File). GivesFile o 1048576 read.content) found (member_from_all (λ (read : FileRead). GivesContent files read.name 1048576 read.content) reads read contents m)
+      subst (λ (o : Option File). GivesFile o 1048576 read.content) found (each_got (λ (read : FileRead). GivesContent files read.name 1048576 read.content) reads read contents m)
 
   -- What writes a design and stands once is accepted.
   accepted_of : (read : FileRead) (design : NamedDesign) (file : File) → IsMember read reads → WritesDesign read design → IsMember file files → file.name ≡ read.name
@@ -213,14 +215,10 @@ module _ (files : List File) (reads : List FileRead) (listed : AreListed files (
           let d = writes_of r file (read_in front r rest is) k e a in
           bad d.0 (record { differs = differs one rest refl; alone = d.1 })
 
-      not_of : (b : Bool) → (b ≡ true → ⊥) → IsTrue (not b)
-      not_of true h = absurd (h refl)
-      not_of false h = refl
-
       at : (other : File) → IsMember other.name (map (λ read. read.name) front) ⊎ IsMember other.name (map (λ read. read.name) (r ∷ rest)) → IsMember other files → IsTrue (is_recognised other.name)
           → (IsAccepted files other → ⊥) → IsTrue (not (is_before other.name r.name))
       at other (inl l) k s refuse = absurd (refuse (fine other k s l))
-      at other (inr (inl e)) k s refuse = not_of _ (λ b. never_itself r.name (ap (λ n. is_before n r.name) (sym e) ∙ b))
+      at other (inr (inl e)) k s refuse = true_not _ (false_from_ne_true _ (λ b. never_itself r.name (ap (λ n. is_before n r.name) (sym e) ∙ b)))
       at other (inr (inr l)) k s refuse = all_elim (λ z. not (is_before z r.name)) (map (λ read. read.name) rest) other.name (first _ _ o) l
 
   refuse_walk : (front rest : List FileRead) (name : List ℕ) → reads ≡ front ++ rest → Ahead (map (λ read. read.name) front) (map (λ read. read.name) rest) → IsTrue (in_order (map (λ read. read.name) rest))

@@ -12,7 +12,7 @@ use Rattle.std.proofs.lemmas.List.Sorted.{sorted_far, sum_by-IsPermutation}
 use Rattle.std.proofs.lemmas.List.Sums.{length-filter, list_all-from_AllPass}
 use Rattle.std.proofs.lemmas.Map.Lookups.{exact_bytes}
 use Rattle.order_core.specs.Members.{IsMember}
-use Rattle.order_core.specs.MemberLaws.{first, second, both, all_elim, not_true}
+use Rattle.order_core.specs.MemberLaws.{first, second, both, all_elim, not_true, true_not}
 use Rattle.design_cli.specs.ByteOrder.{is_before}
 use Rattle.plain_form.specs.Names.{is_recognised}
 use Rattle.order_core.specs.TotalOrderLaws.{weak}
@@ -55,14 +55,10 @@ abbrev pub in_order : List (List ℕ) → Bool
 in_order [] = true
 in_order (x ∷ xs) = list_all (λ z. not (is_before z x)) xs && in_order xs
 
-not_of : (b : Bool) → b ≡ false → not b ≡ true
-not_of true h = absurd (cc)
-not_of false h = refl
-
 order_at : (xs : List (List ℕ)) → ((i j : ℕ) (d : List ℕ) → i ≤ j → j < length xs → is_before (get_or xs j d) (get_or xs i d) ≡ false) → IsTrue (in_order xs)
 order_at [] h = refl
 order_at (x ∷ xs) h = both _ _
-    (list_all-from_AllPass (λ z. not (is_before z x)) xs (λ k d inside. not_of _ (h 0 (suc k) d (omega arith) (omega arith))))
+    (list_all-from_AllPass (λ z. not (is_before z x)) xs (λ k d inside. true_not _ (h 0 (suc k) d (omega arith) (omega arith))))
     (order_at xs (λ i j d le inside. h (suc i) (suc j) d (omega arith) (omega arith)))
 
 pub sorted_order : (xs : List (List ℕ)) → IsSortedBy is_before xs → IsTrue (in_order xs)

@@ -29,6 +29,7 @@ use Rattle.plain_form.proofs.CatalogueLaws.{catalogue_back, query_back}
 use Rattle.design_cli.proofs.NameCounts.{before_or_same}
 use Rattle.plain_form.specs.FittingLaws.{plain_ports}
 use Rattle.plain_form.specs.TextLaws.{bytes_same}
+use Rattle.order_core.specs.MemberLaws.{not_true}
 
 -- What holds of the question holds of each question that the words ask.
 pub for_question : (P : Asked → Type 0) (o : Option Asked) (q : Asked) → Some q ≡ o → P q → ForSome o P
@@ -138,10 +139,6 @@ module _ (files : List File) (name asked : List ℕ) where
     one_first : (a b : List ℕ) → IsFirstRefused files a → IsFirstRefused files b → a ≡ b
     one_first a b x y = go (before_or_same a b (not_true (is_before b a) (subst (λ (n : List ℕ). IsTrue (not (is_before n a))) y.named (x.first y.file y.listed y.recognised y.refused))))
       where
-        not_true : (t : Bool) → IsTrue (not t) → t ≡ false
-        not_true true h = absurd (cc)
-        not_true false h = refl
-
         go : (is_before a b ≡ true) ⊎ (a ≡ b) → a ≡ b
         go (inr e) = e
         go (inl l) =

@@ -1,7 +1,8 @@
-ghost use Rattle.std.specs.Prelude.{◌≡◌, All, IfOk, IsTrue, filter, map};
+ghost use Rattle.std.specs.Prelude.{◌≡◌, IfOk, IsTrue, filter, map};
 ghost use Rattle.std.specs.List.Sorted.{IsSortedBy};
 ghost use Rattle.std.specs.Option.{ForSome};
 ghost use Rattle.design_world.specs.Fault.{FolderRunsReliably, HasCause, NeverFall};
+ghost use Rattle.order_core.specs.Pointwise.{Each};
 ghost use Rattle.design_world.specs.Files.{HasNamed, SameFiles};
 ghost use Rattle.design_cli.specs.ByteOrder.{is_before};
 ghost use Rattle.design_cli.specs.Listing.{AreListed, AreRead};
@@ -57,7 +58,7 @@ fn read_each<F: Folder>(
     place: &str,
     names: Vec<Text>,
 ) -> Result<Vec<FileRead>, WorldFault>
-    requires { ForSome (F.files folder.old place.now) (λ files. All (HasNamed files) names.items) }
+    requires { ForSome (F.files folder.old place.now) (λ files. Each (HasNamed files) names.items) }
     ensures same { SameFiles (F.files folder.old) (F.files folder.new) }
     ensures counts { NeverFall (F.faults folder.old) (F.faults folder.new) }
     ensures cause { HasCause (F.faults folder.old place.now) (F.faults folder.new place.now) result }

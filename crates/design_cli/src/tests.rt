@@ -6,6 +6,8 @@ use std::alloc::{AllocError, Global};
 use std::process::Abort;
 use std::test::Fail;
 
+mod world;
+
 const MOTORS: &str =
     "catalogue { provides lift [Nat]; requires mass [Nat]; requires cost [Nat]; row a: 100 -> 10, 5; row b: 120 -> 8, 7; row c: 200 -> 12, 7; }";
 

@@ -13,8 +13,9 @@ use Rattle.design_lexer.specs.Pieces.{is_space, is_letter, is_digit, is_sign, is
 use Rattle.design_lexer.specs.Cut.{IsLongest}
 use Rattle.design_lexer.specs.Scan.{start_of, goes_on, run, word_kind, point_and, fraction, number_kind, number, symbol_len, longest_piece}
 use Rattle.design_lexer.specs.Starts.{start_for}
-use Rattle.design_lexer.specs.StartLaws.{some_is, same_byte, all_of_run, or_left, named_all, starts, reserved_named, not_empty}
+use Rattle.design_lexer.specs.StartLaws.{some_is, same_byte, all_of_run, named_all, starts, reserved_named, not_empty}
 use Rattle.design_lexer.proofs.StartLemmas.{start_tells}
+use Rattle.std.proofs.lemmas.Bool.{or_left}
 
 -- ---- runs
 

@@ -17,6 +17,7 @@ use Rattle.design_lexer.specs.declared.token.Token.{Token}
 use Rattle.design_lexer.specs.declared.token.TokenKind.TheVariants as token
 use Rattle.order_core.specs.MemberLaws.{second, not_true}
 use Rattle.order_core.specs.Pointwise.{Each}
+use Rattle.std.proofs.Math.Bool.{and-false}
 
 -- the kind of the piece that these bytes are, where they begin so
 abbrev pub kind_at : Start → List ℕ → PieceKind
@@ -26,12 +27,8 @@ kind_at start.Letter bs = kind.Token (word_kind bs)
 kind_at start.Digit bs = kind.Token (cond (list_all is_digit bs) token.Whole token.Decimal)
 kind_at start.Sign bs = kind.Token token.Symbol
 
-and_false : (p : Bool) → (p && false) ≡ false
-and_false true = refl
-and_false false = refl
-
 point_between : (whole part : List ℕ) → list_all is_digit (whole ++ 46 ∷ part) ≡ false
-point_between whole part = list_all-append is_digit whole (46 ∷ part) ∙ and_false (list_all is_digit whole)
+point_between whole part = list_all-append is_digit whole (46 ∷ part) ∙ and-false (list_all is_digit whole)
 
 kind_is : (k : PieceKind) (bs : List ℕ) → IsPiece k bs → k ≡ kind_at (start_for k) bs
 kind_is kind.Spaces bs h = refl

@@ -14,6 +14,7 @@ use Rattle.design_lexer.specs.declared.piece.Start.TheVariants as start
 use Rattle.design_lexer.specs.declared.piece.Start.{Start}
 use Rattle.design_lexer.specs.declared.token.TokenKind.TheVariants as token
 use Rattle.order_core.specs.MemberLaws.{first, second, both, not_true, any_elim, all_elim}
+use Rattle.std.proofs.lemmas.Bool.{or_left}
 
 pub some_is : (s t : Start) → Some s ≡ Some t → s ≡ t
 some_is s t e = cc
@@ -21,10 +22,6 @@ some_is s t e = cc
 pub all_of_run : (test : ℕ → Bool) (bs : List ℕ) → IsTrue (is_run test bs) → IsTrue (list_all test bs)
 all_of_run test [] h = refl
 all_of_run test (b ∷ bs) h = h
-
-pub or_left : (p q : Bool) → IsTrue p → IsTrue (p || q)
-or_left true q h = refl
-or_left false q h = absurd (cc)
 
 pub named_all : (bs : List ℕ) → IsTrue (is_named bs) → IsTrue (list_all (λ c. is_letter c || is_digit c) bs)
 named_all [] h = refl

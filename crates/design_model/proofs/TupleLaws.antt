@@ -9,15 +9,12 @@ use Rattle.value_type.specs.Leq.{leq}
 use Rattle.design_model.specs.declared.expr.Expr.{Expr}
 use Rattle.design_model.specs.Above.{is_above, are_above}
 use Rattle.design_model.specs.ValueOf.{Reads, value_of, together, with_first}
-
-and_false : (b : Bool) → b && false ≡ false
-and_false true = refl
-and_false false = refl
+use Rattle.std.proofs.Math.Bool.{and-false}
 
 pub above_first : (t : Types) (k : Kind) (ks : List Kind) (x : Value) (xs : List Value) (v : Option Value) (o : Option (List Value))
     → are_above t (k ∷ ks) (x ∷ xs) (with_first v o) ≡ (is_above t k x v && are_above t ks xs o)
 above_first t k ks x xs (Some v) (Some vs) = refl
-above_first t k ks x xs (Some v) None = sym (and_false (leq t k v x))
+above_first t k ks x xs (Some v) None = sym (and-false (leq t k v x))
 above_first t k ks x xs None o = refl
 
 pub unequal_values : (t : Types) (ks : List Kind) (xs : List Value) (o : Option (List Value)) → length ks ≢ length xs → are_above t ks xs o ≡ false
@@ -37,4 +34,4 @@ unequal_parts t (k ∷ ks) [] reads parts h = unequal_values t (k ∷ ks) [] (to
 unequal_parts t (k ∷ ks) (x ∷ xs) reads [] h = refl
 unequal_parts t (k ∷ ks) (x ∷ xs) reads (part ∷ parts) h =
     above_first t k ks x xs (value_of part reads) (together (map value_of parts) reads)
-    ∙ (ap (λ b. is_above t k x (value_of part reads) && b) (unequal_parts t ks xs reads parts (λ e. h (ap suc e))) ∙ and_false (is_above t k x (value_of part reads)))
+    ∙ (ap (λ b. is_above t k x (value_of part reads) && b) (unequal_parts t ks xs reads parts (λ e. h (ap suc e))) ∙ and-false (is_above t k x (value_of part reads)))

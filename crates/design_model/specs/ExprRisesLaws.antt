@@ -39,6 +39,7 @@ use Rattle.design_model.specs.ValuesInOrderLaws.{itself, row_at, part_row_at}
 use Rattle.value_type.specs.KindOrders.{AreKindOrders}
 use Rattle.value_type.specs.KindOrdersLaws.{values_are_ordered}
 use Rattle.value_type.specs.SameForm.{same_form}
+use Rattle.std.proofs.lemmas.Bool.{or_left, or_right}
 
 -- numbers that are there, in order
 record NumbersInOrder (a b : Option Number) : Type 0 where
@@ -138,14 +139,6 @@ greater_op = record { number = greater_number; monotone = greater_monotone }
 
 lesser_op : IsMonotoneOp numbers.lesser_of
 lesser_op = record { number = lesser_number; monotone = lesser_monotone }
-
-or_left : (a b : Bool) → IsTrue a → IsTrue (a || b)
-or_left true b h = refl
-or_left false b h = absurd (cc)
-
-or_right : (a b : Bool) → IsTrue b → IsTrue (a || b)
-or_right true b h = refl
-or_right false b h = h
 
 module _ (t : Types) (has : Kind → Value → Bool) (order : Kind → Value → Value → Bool) (orders : AreKindOrders t has order)
     (ports : PortTypes) (promised : ℕ → ℕ → Bool) (low high : Reads) (reads : ReadsInOrder has order ports promised low high) where

@@ -3,7 +3,9 @@
 -- Laws hold lemmas.
 pub mod Above
 pub mod Cuts
+pub mod DesignInductionLaws
 pub mod Evaluation
+pub mod EvaluationLaws
 pub mod ExprKinds
 pub mod ExprLaws
 pub mod ExprRisesLaws
@@ -13,6 +15,7 @@ pub mod HeightsLaws
 pub mod Holds
 pub mod HoldsCaseLaws
 pub mod HoldsLaws
+pub mod KindFoldLaws
 pub mod Met
 pub mod NumberLaws
 pub mod Parts

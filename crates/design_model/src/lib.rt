@@ -22,6 +22,3 @@ pub use laws::{expressions_are_monotone, typed_expressions_have_values};
 pub use solved::{Point, Solved, Unsteady};
 pub use value::value_of;
 pub use witness::{PartWitness, Witness};
-
-#[cfg(test)]
-mod tests;

@@ -6,17 +6,17 @@ use Rattle.design_lexer.specs.declared.tree.File.TheVariants as file
 use Rattle.design_parser.specs.declared.parse.FileKind.{FileKind}
 use Rattle.design_parser.specs.declared.parse.FileKind.TheVariants as kind
 use Rattle.design_parser.specs.declared.parts.NetItem.TheVariants as item
-use Rattle.grammar_core.specs.declared.class.Class.{Class}
-use Rattle.grammar_core.specs.declared.class.Class.TheVariants as class
-use Rattle.grammar_core.specs.Classes.{Lexeme, is, one_of, all_in}
-use Rattle.grammar_core.specs.Words.{Nothing, Then, Made, Either, Sym, Else, Any, Several, Folded, Listed, at_end}
-use Rattle.grammar_core.specs.Reading.{made_at, either_at, any_at, several_at, listed_at}
-use Rattle.grammar_core.specs.Spelled.{name_at}
-use Rattle.grammar_core.specs.Parts.{Part, Begins, none}
-use Rattle.grammar_core.specs.PartLaws.{made_part, nothing_part}
-use Rattle.grammar_core.specs.Repeats.{Repeated}
-use Rattle.grammar_core.specs.RepeatLaws.{repeated}
-use Rattle.grammar_core.specs.ClassLaws.{sym_part, closed_then, open_then, open_before, begins_made, begins_then, begins_either, begins_in, begins_more, begins_sym, begins_past, choice_part, choice_any, choice_or, optional_part, each_part, several_part, listed_part, any_part, with_more, swapped, made_or, folded_or, begins_or, either_or, or_in}
+use Rattle.design_lexer.specs.declared.syntax.class.Class.{Class}
+use Rattle.design_lexer.specs.declared.syntax.class.Class.TheVariants as class
+use Rattle.design_lexer.specs.Syntax.Classes.{Lexeme, is, one_of, all_in}
+use Rattle.design_lexer.specs.Syntax.Words.{Nothing, Then, Made, Either, Sym, Else, Any, Several, Folded, Listed, at_end}
+use Rattle.design_lexer.specs.Syntax.Reading.{made_at, either_at, any_at, several_at, listed_at}
+use Rattle.design_lexer.specs.Syntax.Spelled.{name_at}
+use Rattle.design_lexer.specs.Syntax.Parts.{Part, Begins, none}
+use Rattle.design_lexer.specs.Syntax.PartLaws.{made_part, nothing_part}
+use Rattle.design_lexer.specs.Syntax.Repeats.{Repeated}
+use Rattle.design_lexer.specs.Syntax.RepeatLaws.{repeated}
+use Rattle.design_lexer.specs.Syntax.ClassLaws.{sym_part, closed_then, open_then, open_before, begins_made, begins_then, begins_either, begins_in, begins_more, begins_sym, begins_past, choice_part, choice_any, choice_or, optional_part, each_part, several_part, listed_part, any_part, with_more, swapped, made_or, folded_or, begins_or, either_or, or_in}
 use Rattle.design_parser.specs.Trees.{reference, argument, branch, param, row, poset, catalogue, no_items, with_item, net}
 use Rattle.design_parser.specs.Grammar.{Name, Names, Port, Rule, Arg, Ref, Branch, Instance, Cells, Row, Rows, Catalogue, Choose, NetItemOf, Net, Body, Chain, Poset, Interface, Param, Template, Written, Query}
 use Rattle.design_parser.specs.Readers.{names_at, port_at, ports_at, sides, rule_at, arg_at, arguments_at, ref_at, branch_at, instance_at, maybe_cells_at, row_at, table_at, rows_at, catalogue_at, choose_at, item_starts, net_item_at, net_items_at, net_at, body_at, chain_at, chains_at, poset_at, interface_at, param_at, params_at, template_at, file_at}

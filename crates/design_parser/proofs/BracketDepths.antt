@@ -12,9 +12,9 @@ use Rattle.design_lexer.specs.declared.tree.RefTree.{RefTree, fold_out-RefTree, 
 use Rattle.design_lexer.specs.declared.tree.ArgTree.{ArgTree, fold-ArgTree, fold_out-ArgTree, out-roll-ArgTree}
 use Rattle.design_parser.specs.declared.parts.Literal.{Literal}
 use Rattle.design_parser.specs.declared.parts.Literal.TheVariants as literal
-use Rattle.grammar_core.specs.declared.class.Class.TheVariants as class
-use Rattle.grammar_core.specs.Classes.{Lexeme}
-use Rattle.grammar_core.specs.Words.{Nothing, Then, Sym, Else, Listed}
+use Rattle.design_lexer.specs.declared.syntax.class.Class.TheVariants as class
+use Rattle.design_lexer.specs.Syntax.Classes.{Lexeme}
+use Rattle.design_lexer.specs.Syntax.Words.{Nothing, Then, Sym, Else, Listed}
 use Rattle.design_parser.specs.Depth.{most, type_depth, value_depth, reference_depth}
 use Rattle.design_parser.specs.Grammar.{PlainType, Type_, PlainValue, Value, Arg, Ref}
 use Rattle.design_parser.specs.Trees.{literal_value, reference, argument}

@@ -9,14 +9,14 @@ use Rattle.design_lexer.specs.declared.tree.ExprTree.{ExprTree, fold_out-ExprTre
 use Rattle.design_lexer.specs.declared.tree.ExprTree.TheVariants.{Constant, Place, Element, Upper, Sum, Product, Greatest, Lesser, Tuple, outs-Constant, outs-Place, outs-Element, outs-Upper, outs-Sum, outs-Product, outs-Greatest, outs-Lesser, outs-Tuple}
 use Rattle.design_parser.specs.declared.parts.Literal.{Literal}
 use Rattle.design_parser.specs.declared.parts.Literal.TheVariants as literal
-use Rattle.grammar_core.specs.declared.class.Class.{Class}
-use Rattle.grammar_core.specs.declared.class.Class.TheVariants as class
-use Rattle.grammar_core.specs.Classes.{Lexeme, is, one_of, has}
-use Rattle.grammar_core.specs.ClassLaws.{found}
-use Rattle.grammar_core.specs.FewLaws.{few_over}
-use Rattle.grammar_core.specs.PartLaws.{cases_bool}
-use Rattle.grammar_core.specs.Reading.{over}
-use Rattle.grammar_core.specs.Words.{Then, Made, Either, Many, Sym, Joined, Listed, fold, at_end, is_sign, signs}
+use Rattle.design_lexer.specs.declared.syntax.class.Class.{Class}
+use Rattle.design_lexer.specs.declared.syntax.class.Class.TheVariants as class
+use Rattle.design_lexer.specs.Syntax.Classes.{Lexeme, is, one_of, has}
+use Rattle.design_lexer.specs.Syntax.ClassLaws.{found}
+use Rattle.design_lexer.specs.Syntax.FewLaws.{few_over}
+use Rattle.design_lexer.specs.Syntax.PartLaws.{cases_bool}
+use Rattle.design_lexer.specs.Syntax.Reading.{over}
+use Rattle.design_lexer.specs.Syntax.Words.{Then, Made, Either, Many, Sym, Joined, Listed, fold, at_end, is_sign, signs}
 use Rattle.design_parser.specs.Depth.{depth, most}
 use Rattle.design_parser.specs.Grammar.{PlainItem, Round, Call, Operands, Bracketed, Term, Sums, Item, Expr, Rule, RuleOf}
 use Rattle.design_parser.specs.Readers.{expr_at}

@@ -4,16 +4,16 @@ use Rattle.design_lexer.specs.declared.tree.NameAt.{NameAt}
 use Rattle.design_lexer.specs.declared.tree.ExprTree.{ExprTree}
 use Rattle.design_lexer.specs.declared.tree.ExprTree.TheVariants as expr
 use Rattle.design_lexer.specs.declared.tree.RuleTree.TheVariants as rule
-use Rattle.grammar_core.specs.declared.class.Class.{Class}
-use Rattle.grammar_core.specs.declared.class.Class.TheVariants as class
-use Rattle.grammar_core.specs.Classes.{Lexeme, is, one_of, has, all_in}
-use Rattle.grammar_core.specs.Words.{Nothing, Then, Made, Either, Sym, Mark, Maybe}
-use Rattle.grammar_core.specs.Reading.{made_at, either_at, sym_at, mark_at, maybe_at}
-use Rattle.grammar_core.specs.Spelled.{numbers, name_at}
-use Rattle.grammar_core.specs.Parts.{Part, Begins, none}
-use Rattle.grammar_core.specs.PartLaws.{made_part, nothing_part}
-use Rattle.grammar_core.specs.ClassLaws.{mark_part, begins_mark, sym_part, closed_then, open_then, begins_made, begins_then, begins_either, begins_in, begins_more, begins_sym, choice_part, choice_any, choice_or, optional_part, after_part, with_more, swapped, shared, else_or, made_or}
-use Rattle.grammar_core.specs.FewLaws.{few_part}
+use Rattle.design_lexer.specs.declared.syntax.class.Class.{Class}
+use Rattle.design_lexer.specs.declared.syntax.class.Class.TheVariants as class
+use Rattle.design_lexer.specs.Syntax.Classes.{Lexeme, is, one_of, has, all_in}
+use Rattle.design_lexer.specs.Syntax.Words.{Nothing, Then, Made, Either, Sym, Mark, Maybe}
+use Rattle.design_lexer.specs.Syntax.Reading.{made_at, either_at, sym_at, mark_at, maybe_at}
+use Rattle.design_lexer.specs.Syntax.Spelled.{numbers, name_at}
+use Rattle.design_lexer.specs.Syntax.Parts.{Part, Begins, none}
+use Rattle.design_lexer.specs.Syntax.PartLaws.{made_part, nothing_part}
+use Rattle.design_lexer.specs.Syntax.ClassLaws.{mark_part, begins_mark, sym_part, closed_then, open_then, begins_made, begins_then, begins_either, begins_in, begins_more, begins_sym, choice_part, choice_any, choice_or, optional_part, after_part, with_more, swapped, shared, else_or, made_or}
+use Rattle.design_lexer.specs.Syntax.FewLaws.{few_part}
 use Rattle.design_parser.specs.Trees.{literal_expr, place, sum, product, greatest, lesser}
 use Rattle.design_parser.specs.Grammar.{Name, Constant, LiteralAfter, LiteralOf, Bracketed, PlaceAfter, Place, PlainItem, Round, Operands, Call, Term, Sums, Item, Expr, RuleOf, Rule}
 use Rattle.design_parser.specs.Readers.{constant_at, literal_after, bracketed_at, plain_starts, place_after, place_at, named_after, named_at, plain_item_at, round_at, operands_at, greatest_at, lesser_at, tuple_at, opened_at, term_of, sums_of, item_at, term_at, expr_at, above_at, ignore_at, whole_rule_at, rule_at}

@@ -1,17 +1,17 @@
 -- Names, numbers, units, constants and literals are read as they are written.
 use Rattle.std.proofs.Common.{Bool, true, false, List, [], ◌∷◌, None, refl}
 use Rattle.design_lexer.specs.declared.tree.NameAt.{NameAt}
-use Rattle.grammar_core.specs.declared.class.Class.{Class}
-use Rattle.grammar_core.specs.declared.class.Class.TheVariants as class
-use Rattle.grammar_core.specs.Classes.{is, one_of}
-use Rattle.grammar_core.specs.Words.{One, Nothing, Made, Sym, Maybe, Listed, at_end}
-use Rattle.grammar_core.specs.Reading.{token_at, made_at, sym_at, give, listed_at}
-use Rattle.grammar_core.specs.Spelled.{numbers, unit_names, name_of, name_at, unit_name_at, number_at, whole_at}
-use Rattle.grammar_core.specs.Parts.{Part, Begins, none}
-use Rattle.grammar_core.specs.PartLaws.{made_part, nothing_part}
-use Rattle.grammar_core.specs.Repeats.{Repeated}
-use Rattle.grammar_core.specs.RepeatLaws.{repeated}
-use Rattle.grammar_core.specs.ClassLaws.{class_part, classes_part, sym_part, closed_then, open_then, open_before, open_maybe, begins_one, begins_made, begins_then, begins_either, begins_in, begins_sym, choice_part, optional_part, maybe_part, run_part, listed_part, with_more}
+use Rattle.design_lexer.specs.declared.syntax.class.Class.{Class}
+use Rattle.design_lexer.specs.declared.syntax.class.Class.TheVariants as class
+use Rattle.design_lexer.specs.Syntax.Classes.{is, one_of}
+use Rattle.design_lexer.specs.Syntax.Words.{One, Nothing, Made, Sym, Maybe, Listed, at_end}
+use Rattle.design_lexer.specs.Syntax.Reading.{token_at, made_at, sym_at, give, listed_at}
+use Rattle.design_lexer.specs.Syntax.Spelled.{numbers, unit_names, name_of, name_at, unit_name_at, number_at, whole_at}
+use Rattle.design_lexer.specs.Syntax.Parts.{Part, Begins, none}
+use Rattle.design_lexer.specs.Syntax.PartLaws.{made_part, nothing_part}
+use Rattle.design_lexer.specs.Syntax.Repeats.{Repeated}
+use Rattle.design_lexer.specs.Syntax.RepeatLaws.{repeated}
+use Rattle.design_lexer.specs.Syntax.ClassLaws.{class_part, classes_part, sym_part, closed_then, open_then, open_before, open_maybe, begins_one, begins_made, begins_then, begins_either, begins_in, begins_sym, choice_part, optional_part, maybe_part, run_part, listed_part, with_more}
 use Rattle.design_parser.specs.Trees.{no_power, power, factor, constant, element_of, upper_of}
 use Rattle.design_parser.specs.Grammar.{Name, Names, WholeOf, NumberAt, UnitName, Negative, PowerOf, Factor, FurtherFactor, Unit_, Constant, LiteralAfter, LiteralOf}
 use Rattle.design_parser.specs.Readers.{names_at, joints, negative_at, written_power_at, power_at, factor_at, further_factor_at, unit_at, under_at, maybe_unit_at, constant_at, literal_after, literal_at}

@@ -1,7 +1,7 @@
 -- Reading by how many brackets may still be opened.
 use Rattle.std.proofs.Common.{◌≡◌, ℕ, zero, suc, ◌-◌, ◌<◌, Bool, true, false, List, refl, sym, ◌∙◌, arith}
-use Rattle.grammar_core.specs.declared.class.Class.TheVariants as class
-use Rattle.grammar_core.specs.Classes.{Lexeme, is, one_of, starts}
+use Rattle.design_lexer.specs.declared.syntax.class.Class.TheVariants as class
+use Rattle.design_lexer.specs.Syntax.Classes.{Lexeme, is, one_of, starts}
 use Rattle.design_parser.specs.Readers.{plain_value_at, tuple_value_at, value_at, plain_type_at, product_at, type_at, plain_starts, plain_item_at, opened_at, item_at, expr_at, plain_ref_at, full_ref_at, ref_at}
 
 less : (room : ℕ) → suc room - 1 ≡ room

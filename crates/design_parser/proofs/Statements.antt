@@ -3,13 +3,13 @@ use Rattle.std.proofs.Common.{◌≡◌, ℕ, zero, suc, Bool, true, false, List
 use Rattle.design_lexer.specs.declared.tree.ExprTree.{ExprTree}
 use Rattle.design_lexer.specs.declared.tree.ExprTree.TheVariants as expr
 use Rattle.design_lexer.specs.declared.tree.RuleTree.TheVariants as rule
-use Rattle.grammar_core.specs.declared.class.Class.{Class}
-use Rattle.grammar_core.specs.declared.class.Class.TheVariants as class
-use Rattle.grammar_core.specs.Classes.{Lexeme, is, one_of, has}
-use Rattle.grammar_core.specs.Spelled.{numbers, unit_names, name_of}
-use Rattle.grammar_core.specs.Statements.{HasNoEnd, AreStatements}
-use Rattle.grammar_core.specs.StatementLaws.{class_no_end, one_class_no_end, nothing_no_end, made_no_end, then_no_end, either_no_end, folded_no_end, sym_no_end, end_statement, then_statement, sym_statement, either_statement}
-use Rattle.grammar_core.specs.Words.{One, Nothing, Made, Sym, Mark, Else, Listed, Joined, at_end}
+use Rattle.design_lexer.specs.declared.syntax.class.Class.{Class}
+use Rattle.design_lexer.specs.declared.syntax.class.Class.TheVariants as class
+use Rattle.design_lexer.specs.Syntax.Classes.{Lexeme, is, one_of, has}
+use Rattle.design_lexer.specs.Syntax.Spelled.{numbers, unit_names, name_of}
+use Rattle.design_lexer.specs.Syntax.Statements.{HasNoEnd, AreStatements}
+use Rattle.design_lexer.specs.Syntax.StatementLaws.{class_no_end, one_class_no_end, nothing_no_end, made_no_end, then_no_end, either_no_end, folded_no_end, sym_no_end, end_statement, then_statement, sym_statement, either_statement}
+use Rattle.design_lexer.specs.Syntax.Words.{One, Nothing, Made, Sym, Mark, Else, Listed, Joined, at_end}
 use Rattle.design_parser.specs.Trees.{no_power, power, factor, constant, element_of, upper_of, literal_expr, place, sum, product, greatest, lesser}
 use Rattle.design_parser.specs.Grammar.{Name, Names, WholeOf, NumberAt, UnitName, Negative, PowerOf, Factor, FurtherFactor, Unit_, Constant, LiteralAfter, LiteralOf, Bracketed, PlaceAfter, Place, PlainItem, Round, Operands, Call, Term, Sums, Item, Expr, RuleOf}
 

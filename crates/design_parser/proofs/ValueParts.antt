@@ -5,18 +5,18 @@ use Rattle.design_lexer.specs.declared.tree.Side.TheVariants as side
 use Rattle.design_lexer.specs.declared.tree.ValueTree.TheVariants as value
 use Rattle.design_lexer.specs.declared.tree.ValueTree.{ValueTree}
 use Rattle.design_lexer.specs.declared.tree.TypeTree.{TypeTree}
-use Rattle.grammar_core.specs.declared.class.Class.{Class}
-use Rattle.grammar_core.specs.declared.class.Class.TheVariants as class
-use Rattle.grammar_core.specs.Classes.{Lexeme, is, one_of, has, all_in}
-use Rattle.grammar_core.specs.Words.{Nothing, Then, Made, Either, Placed, Sym, Mark, Else, Any, Listed, at_end}
-use Rattle.grammar_core.specs.Reading.{made_at, either_at, sym_at, mark_at, placed_at, give, listed_at}
-use Rattle.grammar_core.specs.Spelled.{numbers, unit_names, name_at}
-use Rattle.grammar_core.specs.Parts.{Part, Begins, none}
-use Rattle.grammar_core.specs.PartLaws.{made_part, nothing_part}
-use Rattle.grammar_core.specs.Repeats.{Repeated}
-use Rattle.grammar_core.specs.RepeatLaws.{repeated}
-use Rattle.grammar_core.specs.ClassLaws.{mark_part, begins_mark, sym_part, closed_then, open_then, begins_made, begins_then, begins_either, begins_in, begins_more, begins_sym, choice_part, choice_any, maybe_part, listed_part, any_part, with_more, swapped}
-use Rattle.grammar_core.specs.PlacedLaws.{placed_part}
+use Rattle.design_lexer.specs.declared.syntax.class.Class.{Class}
+use Rattle.design_lexer.specs.declared.syntax.class.Class.TheVariants as class
+use Rattle.design_lexer.specs.Syntax.Classes.{Lexeme, is, one_of, has, all_in}
+use Rattle.design_lexer.specs.Syntax.Words.{Nothing, Then, Made, Either, Placed, Sym, Mark, Else, Any, Listed, at_end}
+use Rattle.design_lexer.specs.Syntax.Reading.{made_at, either_at, sym_at, mark_at, placed_at, give, listed_at}
+use Rattle.design_lexer.specs.Syntax.Spelled.{numbers, unit_names, name_at}
+use Rattle.design_lexer.specs.Syntax.Parts.{Part, Begins, none}
+use Rattle.design_lexer.specs.Syntax.PartLaws.{made_part, nothing_part}
+use Rattle.design_lexer.specs.Syntax.Repeats.{Repeated}
+use Rattle.design_lexer.specs.Syntax.RepeatLaws.{repeated}
+use Rattle.design_lexer.specs.Syntax.ClassLaws.{mark_part, begins_mark, sym_part, closed_then, open_then, begins_made, begins_then, begins_either, begins_in, begins_more, begins_sym, choice_part, choice_any, maybe_part, listed_part, any_part, with_more, swapped}
+use Rattle.design_lexer.specs.Syntax.PlacedLaws.{placed_part}
 use Rattle.design_parser.specs.Trees.{literal_value, port}
 use Rattle.design_parser.specs.Grammar.{Name, Unit_, Constant, LiteralOf, Bracketed, PlainValue, Value, PlainType, Type_, SideOf, Port, Cells}
 use Rattle.design_parser.specs.Readers.{unit_at, constant_at, literal_at, bracketed_at, plain_value_at, tuple_value_at, value_at, plain_type_at, product_at, type_at, side_at, port_at, ports_at, sides, cells_at, maybe_cells_at, cell_starts}

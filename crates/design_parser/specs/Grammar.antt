@@ -1,9 +1,9 @@
 -- The grammar: which tokens write which tree, production by production, the smallest first.
 use Rattle.std.specs.Prelude.{ℕ, zero, suc, Bool, true, false, List, [], ◌∷◌, Option, Some, None}
-use Rattle.grammar_core.specs.declared.class.Class.TheVariants as class
-use Rattle.grammar_core.specs.Classes.{Lexeme, is, one_of}
-use Rattle.grammar_core.specs.Spelled.{name_of, number_of, digits_of, numbers, unit_names}
-use Rattle.grammar_core.specs.Words.{One, Nothing, Then, Made, Either, Placed, Few, Sym, Mark, Else, Maybe, Folded, Any, Several, Listed, Joined, at_end}
+use Rattle.design_lexer.specs.declared.syntax.class.Class.TheVariants as class
+use Rattle.design_lexer.specs.Syntax.Classes.{Lexeme, is, one_of}
+use Rattle.design_lexer.specs.Syntax.Spelled.{name_of, number_of, digits_of, numbers, unit_names}
+use Rattle.design_lexer.specs.Syntax.Words.{One, Nothing, Then, Made, Either, Placed, Few, Sym, Mark, Else, Maybe, Folded, Any, Several, Listed, Joined, at_end}
 use Rattle.design_lexer.specs.declared.tree.NameAt.{NameAt}
 use Rattle.design_lexer.specs.declared.tree.Number.{Number}
 use Rattle.design_lexer.specs.declared.tree.FactorTree.{FactorTree}

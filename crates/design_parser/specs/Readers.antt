@@ -1,11 +1,11 @@
 -- How each production is read.
 use Rattle.std.specs.Prelude.{ℕ, zero, suc, Bool, true, false, List, [], ◌∷◌, Option, Some, None, Result}
-use Rattle.grammar_core.specs.declared.class.Class.{Class}
-use Rattle.grammar_core.specs.declared.class.Class.TheVariants as class
-use Rattle.grammar_core.specs.Classes.{Lexeme, is, one_of}
-use Rattle.grammar_core.specs.Spelled.{numbers, unit_names, name_at, unit_name_at, number_at, whole_at}
-use Rattle.grammar_core.specs.Words.{at_end}
-use Rattle.grammar_core.specs.Reading.{give, then_at, made_at, either_at, many_at, placed_at, few_at, sym_at, mark_at, else_at, maybe_at, any_at, several_at, listed_at, joined_at}
+use Rattle.design_lexer.specs.declared.syntax.class.Class.{Class}
+use Rattle.design_lexer.specs.declared.syntax.class.Class.TheVariants as class
+use Rattle.design_lexer.specs.Syntax.Classes.{Lexeme, is, one_of}
+use Rattle.design_lexer.specs.Syntax.Spelled.{numbers, unit_names, name_at, unit_name_at, number_at, whole_at}
+use Rattle.design_lexer.specs.Syntax.Words.{at_end}
+use Rattle.design_lexer.specs.Syntax.Reading.{give, then_at, made_at, either_at, many_at, placed_at, few_at, sym_at, mark_at, else_at, maybe_at, any_at, several_at, listed_at, joined_at}
 use Rattle.design_lexer.specs.declared.tree.NameAt.{NameAt}
 use Rattle.design_lexer.specs.declared.tree.Number.{Number}
 use Rattle.design_lexer.specs.declared.tree.FactorTree.{FactorTree}

@@ -1,5 +1,5 @@
 ghost use Rattle.std.specs.Prelude.{◌≡◌, [], OnOk};
-ghost use Rattle.grammar_core.specs.Gives.{Gives};
+ghost use Rattle.design_lexer.specs.Syntax.Gives.{Gives};
 ghost use Rattle.design_parser.specs.Readers as reader;
 ghost use Rattle.design_parser.specs.Trees as trees;
 ghost use Rattle.design_parser.specs.Lists.{lists_of};
@@ -9,8 +9,7 @@ use crate::ports::{port, ports};
 use crate::references::{branches, instance};
 use crate::rules::rule;
 use crate::values::maybe_cells;
-use design_lexer::{BodyTree, NameAt, RowTree};
-use grammar_core::{Class, Lexemes, ReadFault};
+use design_lexer::{BodyTree, Class, Lexemes, NameAt, ReadFault, RowTree};
 use order_core::List;
 use std::alloc::{AllocError, Global};
 

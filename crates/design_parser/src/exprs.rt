@@ -1,15 +1,14 @@
 ghost use Rattle.std.specs.Prelude.{◌≡◌, Ok};
-ghost use Rattle.grammar_core.specs.Gives.{Gives};
-ghost use Rattle.grammar_core.specs.Reading.{listed_at};
+ghost use Rattle.design_lexer.specs.Syntax.Gives.{Gives};
+ghost use Rattle.design_lexer.specs.Syntax.Reading.{listed_at};
 ghost use Rattle.design_parser.specs.Readers as reader;
 ghost use Rattle.design_parser.specs.Trees as trees;
-ghost use Rattle.grammar_core.specs.declared.class.Class.TheVariants as class;
+ghost use Rattle.design_lexer.specs.declared.syntax.class.Class.TheVariants as class;
 
 use crate::names::literal_after;
 use crate::parts::Literal;
 use crate::units::constant;
-use design_lexer::{ExprTree, NameAt, PlaceTree};
-use grammar_core::{Class, Lexemes, ReadFault};
+use design_lexer::{Class, ExprTree, Lexemes, NameAt, PlaceTree, ReadFault};
 use order_core::{Boxed, List};
 use std::alloc::Global;
 

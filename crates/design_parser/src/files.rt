@@ -1,5 +1,5 @@
 ghost use Rattle.std.specs.Prelude.{◌≡◌};
-ghost use Rattle.grammar_core.specs.Gives.{Gives};
+ghost use Rattle.design_lexer.specs.Syntax.Gives.{Gives};
 ghost use Rattle.design_parser.specs.Readers as reader;
 
 use crate::bodies::body;
@@ -7,8 +7,7 @@ use crate::names::{listed, names};
 use crate::parse::FileKind;
 use crate::ports::ports;
 use crate::references::params;
-use design_lexer::{File, NameAt, PortTree, PosetTree};
-use grammar_core::{Class, Lexemes, ReadFault};
+use design_lexer::{Class, File, Lexemes, NameAt, PortTree, PosetTree, ReadFault};
 use order_core::List;
 use std::alloc::Global;
 

@@ -19,6 +19,3 @@ pub use laws::{
     tokens_write_one_tree, trees_are_no_deeper_than_the_brackets,
 };
 pub use parse::{FileKind, SyntaxFault, parse_file, parse_values};
-
-#[cfg(test)]
-mod tests;

@@ -1,12 +1,11 @@
 ghost use Rattle.std.specs.Prelude.{◌≡◌};
-ghost use Rattle.grammar_core.specs.Gives.{Gives};
-ghost use Rattle.grammar_core.specs.Reading.{listed_at};
-ghost use Rattle.grammar_core.specs.Spelled.{name_at};
+ghost use Rattle.design_lexer.specs.Syntax.Gives.{Gives};
+ghost use Rattle.design_lexer.specs.Syntax.Reading.{listed_at};
+ghost use Rattle.design_lexer.specs.Syntax.Spelled.{name_at};
 ghost use Rattle.design_parser.specs.Readers as reader;
 
 use crate::parts::Literal;
-use design_lexer::NameAt;
-use grammar_core::{Class, Lexemes, ReadFault};
+use design_lexer::{Class, Lexemes, NameAt, ReadFault};
 use order_core::List;
 use std::alloc::Global;
 

@@ -1,17 +1,16 @@
 ghost use Rattle.std.specs.Prelude.{◌≡◌, Ok, IfOk, IfErr, length};
 ghost use Rattle.design_lexer.specs.Cut.{AreTokens};
-ghost use Rattle.grammar_core.specs.Classes.{lexemes_of};
-ghost use Rattle.grammar_core.specs.Faults.{FailsAt};
-ghost use Rattle.grammar_core.specs.Gives.{Gives};
-ghost use Rattle.grammar_core.specs.Reading.{whole};
+ghost use Rattle.design_lexer.specs.Syntax.Classes.{lexemes_of};
+ghost use Rattle.design_lexer.specs.Syntax.Faults.{FailsAt};
+ghost use Rattle.design_lexer.specs.Syntax.Gives.{Gives};
+ghost use Rattle.design_lexer.specs.Syntax.Reading.{whole};
 ghost use Rattle.design_parser.specs.Answers.{IfAt};
 ghost use Rattle.design_parser.specs.Grammar as grammar;
 ghost use Rattle.design_parser.specs.Readers as reader;
 
 use crate::files::file;
 use crate::values::maybe_cells;
-use design_lexer::{File, Token, ValueTree};
-use grammar_core::{Lexemes, ReadFault};
+use design_lexer::{File, Lexemes, ReadFault, Token, ValueTree};
 use order_core::List;
 use std::alloc::Global;
 

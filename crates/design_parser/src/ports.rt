@@ -1,12 +1,11 @@
 ghost use Rattle.std.specs.Prelude.{◌≡◌};
-ghost use Rattle.grammar_core.specs.Gives.{Gives};
-ghost use Rattle.grammar_core.specs.Reading.{listed_at};
+ghost use Rattle.design_lexer.specs.Syntax.Gives.{Gives};
+ghost use Rattle.design_lexer.specs.Syntax.Reading.{listed_at};
 ghost use Rattle.design_parser.specs.Readers as reader;
-ghost use Rattle.grammar_core.specs.declared.class.Class.TheVariants as class;
+ghost use Rattle.design_lexer.specs.declared.syntax.class.Class.TheVariants as class;
 
 use crate::units::unit;
-use design_lexer::{PortTree, Side, TypeTree};
-use grammar_core::{Class, Lexemes, ReadFault};
+use design_lexer::{Class, Lexemes, PortTree, ReadFault, Side, TypeTree};
 use order_core::List;
 use std::alloc::Global;
 

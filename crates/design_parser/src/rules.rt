@@ -1,10 +1,9 @@
 ghost use Rattle.std.specs.Prelude.{◌≡◌};
-ghost use Rattle.grammar_core.specs.Gives.{Gives};
+ghost use Rattle.design_lexer.specs.Syntax.Gives.{Gives};
 ghost use Rattle.design_parser.specs.Readers as reader;
 
 use crate::exprs::{expr, place};
-use design_lexer::RuleTree;
-use grammar_core::{Class, Lexemes, ReadFault};
+use design_lexer::{Class, Lexemes, ReadFault, RuleTree};
 use std::alloc::Global;
 
 /// The most signs `+` and `*` of a rule.

@@ -1,10 +1,9 @@
 ghost use Rattle.std.specs.Prelude.{◌≡◌};
-ghost use Rattle.grammar_core.specs.Gives.{Gives};
+ghost use Rattle.design_lexer.specs.Syntax.Gives.{Gives};
 ghost use Rattle.design_parser.specs.Readers as reader;
 
 use crate::parts::Power;
-use design_lexer::{ConstantTree, FactorTree, Number};
-use grammar_core::{Class, Lexemes, ReadFault};
+use design_lexer::{Class, ConstantTree, FactorTree, Lexemes, Number, ReadFault};
 use order_core::{List, Text};
 use std::alloc::Global;
 

@@ -1,13 +1,12 @@
 ghost use Rattle.std.specs.Prelude.{◌≡◌};
-ghost use Rattle.grammar_core.specs.Gives.{Gives};
+ghost use Rattle.design_lexer.specs.Syntax.Gives.{Gives};
 ghost use Rattle.design_parser.specs.Readers as reader;
 ghost use Rattle.design_parser.specs.Trees as trees;
 
 use crate::names::literal;
 use crate::parts::Literal;
 use crate::units::constant;
-use design_lexer::ValueTree;
-use grammar_core::{Class, Lexemes, ReadFault};
+use design_lexer::{Class, Lexemes, ReadFault, ValueTree};
 use order_core::List;
 use std::alloc::Global;
 

@@ -7,6 +7,7 @@ use Rattle.std.proofs.lemmas.Map.Views.{list_any-from_Contains}
 use Rattle.design_world.specs.Files.{HasNamed, first_named, names_of}
 use Rattle.design_world.specs.InMemory.{file_of, files_of}
 use Rattle.design_world.specs.declared.memory.folder.MemoryFile.{MemoryFile}
+use Rattle.order_core.specs.MemberLaws.{contains_member}
 
 -- where a test finds nothing, no item passes it
 find_none : {X : Type 0} (p : X → Bool) (xs : List X) → find p xs ≡ None → list_any p xs ≡ false
@@ -25,7 +26,7 @@ any_named (file ∷ files) name = ap (λ b. bytes_eq name file.name || b) (any_n
 -- a file that is there is found
 pub is_found : (files : List MemoryFile) (name : List ℕ) → find (λ file. bytes_eq name file.name) files ≡ None → HasNamed (files_of files) name → ⊥
 is_found files name nothing there =
-    let some : list_any (bytes_eq name) (names_of (files_of files)) ≡ true = list_any-from_Contains nat_list_eq_equiv name _ there in
+    let some : list_any (bytes_eq name) (names_of (files_of files)) ≡ true = list_any-from_Contains nat_list_eq_equiv name _ (contains_member _ name there) in
     let none : list_any (λ file. bytes_eq name file.name) files ≡ false = find_none _ files nothing in
     let same = any_named files name in
     absurd (cc)

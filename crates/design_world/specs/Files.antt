@@ -1,8 +1,9 @@
 -- The files of a folder, and what is listed and read of them.
-use Rattle.std.specs.Prelude.{◌≡◌, ℕ, ◌<◌, ◌≤◌, List, Option, Some, None, length, map, find, Contains}
+use Rattle.std.specs.Prelude.{◌≡◌, ℕ, ◌<◌, ◌≤◌, List, Option, Some, None, length, map, find}
 use Rattle.std.specs.Str.{bytes_eq}
 use Rattle.design_world.specs.declared.world.Content.{Content}
 use Rattle.design_world.specs.declared.world.Content.TheVariants.{Whole, Longer}
+use Rattle.order_core.specs.Members.{IsMember}
 
 -- a file: its name and its bytes
 pub record File : Type 0 where
@@ -27,7 +28,7 @@ SameFiles before now = (place : List ℕ) → now place ≡ before place
 
 -- some file has the name
 abbrev pub HasNamed : List File → List ℕ → Type 0
-HasNamed files name = Contains (names_of files) name
+HasNamed files name = IsMember name (names_of files)
 
 -- the names are those of the files, in order
 abbrev pub GivesNames : List File → List (List ℕ) → Type 0

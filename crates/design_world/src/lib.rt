@@ -10,6 +10,3 @@ pub use host::{HostFolder, HostSink, HostSource};
 pub use memory::{MemoryFile, MemoryFolder, MemorySink, MemorySource};
 pub use world::{Content, Folder, Sink, Source, WorldFault};
 pub use write::put_all;
-
-#[cfg(test)]
-mod tests;

@@ -18,7 +18,7 @@ use Rattle.design_model.specs.PartsLaws.{provided-Cat, required-Cat}
 use Rattle.design_model.specs.Typed.{IsTyped, is_port, row_is_typed}
 use Rattle.design_model.specs.TypedLaws.{IsTyped-Cat, IsTyped-Net}
 use Rattle.design_model.specs.Wiring.{Wiring, readable}
-use Rattle.model_laws.specs.KindFoldLaws.{known-Fin, height-Fin}
+use Rattle.design_model.specs.KindFoldLaws.{known-Fin, height-Fin}
 use Rattle.value_type.specs.SameFormLaws.{same_form_itself}
 use Rattle.model_examples.specs.Back.{poset, types, row, t, maker_provides, maker_requires, maker_rows, maker, requires_, parts, constraints, back}
 use Rattle.model_examples.proofs.BackLemmas.{back_gives_t}

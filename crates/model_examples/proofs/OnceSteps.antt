@@ -26,7 +26,7 @@ use Rattle.design_model.specs.Typed.{IsTyped}
 use Rattle.design_model.specs.TypedLaws.{IsTyped-Cat, IsTyped-Net}
 use Rattle.design_model.specs.Wiring.{readable}
 use Rattle.design_model.specs.ValueOf.{Reads, value_of}
-use Rattle.model_laws.specs.KindFoldLaws.{height-Num}
+use Rattle.design_model.specs.KindFoldLaws.{height-Num}
 use Rattle.model_examples.proofs.NumberRowsLemmas.{counts_fit, counts_leq, one_leq}
 use Rattle.model_examples.specs.Once.{maker_provides, maker_requires, maker_rows, maker, once}
 use Rattle.model_examples.proofs.SuccessorLaws.{number_port_is, numbers_form}

@@ -22,6 +22,7 @@ use Rattle.order_core.specs.MemberLaws.{first, second, both, decide, not_true, t
 use Rattle.order_core.specs.Members.{IsMember}
 use Rattle.value_type.specs.declared.kind.Kind.{Kind}
 use Rattle.value_type.specs.declared.port.Port.{Port}
+use Rattle.design_model.specs.EvaluationLaws.{many_numbers}
 
 filter_shorter : {A : Type 0} (keep : A → Bool) (xs : List A) → length (filter keep xs) ≤ length xs
 filter_shorter keep [] = omega arith
@@ -101,10 +102,6 @@ module _ (reads : ℕ → ℕ → Bool) (acyclic : (p : ℕ) → ReadsItself rea
           let below = deeper (true_not _ apart) in
           rw (differ, other) (omega arith)
 
-counted : (start n : ℕ) → length (numbers_from start n) ≡ n
-counted start zero = refl
-counted start (suc n) = ap suc (counted (start + 1) n)
-
 is_number : {A : Type 0} (start : ℕ) (xs : List A) (i : ℕ) (x : A) → slice_get xs i ≡ Some x → IsMember (start + i) (numbers_from start (length xs))
 is_number start [] i x e = absurd (cc)
 is_number start (y ∷ ys) zero x e = inl (omega arith)
@@ -129,7 +126,7 @@ module _ (net : Wiring) (as_many : length net.required ≡ length net.provided) 
       reads_weaker (λ a b. (a == s.part) && (b == s.port)) (λ a b. a == s.part) (λ a b h. first _ _ h) c.lower read in
       let reads : IsTrue (part_reads net.constraints i s.part) = any_intro (λ d. is_into i d.greater && reads_part d.lower s.part) net.constraints c m (both _ _ into whole) in
       let member : IsMember s.part (numbers_from 0 (length net.provided)) = rw as_many at (part_of net.required s.part s.port s.kind (cut_in_place net s k)) in
-      let many : length (numbers_from 0 (length net.provided)) ≡ length net.provided = counted 0 (length net.provided) in
+      let many : length (numbers_from 0 (length net.provided)) ≡ length net.provided = many_numbers 0 (length net.provided) in
       let before = reads_later (part_reads net.constraints) acyclic (length net.provided) (numbers_from 0 (length net.provided)) (omega arith) i s.part member reads in
       let after = leb-true _ _ cut in
       absurd (omega arith)

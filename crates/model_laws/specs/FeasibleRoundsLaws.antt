@@ -19,11 +19,9 @@ use Rattle.design_model.specs.ValuesInOrder.{ReadsLeq, ValuesLeq}
 use Rattle.design_model.specs.ValuesInOrderLaws.{itself, row_at, part_row_at}
 use Rattle.design_model.specs.Wiring.{Wiring, wiring_of, Carried, required_rows, readable}
 use Rattle.design_model.specs.declared.design.CatRow.{CatRow}
-use Rattle.design_model.specs.declared.design.Design.TheFolds.{ind-Design}
-use Rattle.design_model.specs.declared.design.Design.TheOpen.{Design-F}
-use Rattle.design_model.specs.declared.design.Design.TheVariants.{Cat, Choice, Net, rolls-Cat, rolls-Choice, rolls-Net}
-use Rattle.design_model.specs.declared.design.Design.{Design, roll-Design, map-Design}
-use Rattle.design_model.specs.declared.design.Part.{Part, roll-Part}
+use Rattle.design_model.specs.declared.design.Design.TheVariants.{Cat, Choice, Net}
+use Rattle.design_model.specs.declared.design.Design.{Design}
+use Rattle.design_model.specs.declared.design.Part.{Part}
 use Rattle.design_model.specs.declared.expr.Constraint.{Constraint}
 use Rattle.design_model.specs.declared.witness.PartWitness.{PartWitness}
 use Rattle.design_model.specs.declared.witness.Witness.{Witness}
@@ -44,6 +42,7 @@ use Rattle.value_type.specs.declared.kind.Kind.{Kind}
 use Rattle.value_type.specs.declared.port.Port.{Port}
 use Rattle.value_type.specs.declared.poset.Types.{Types}
 use Rattle.value_type.specs.declared.value.Value.{Value}
+use Rattle.design_model.specs.DesignInductionLaws.{for_each_design}
 
 -- Where a state gives each signal what the parts carry, a constraint reads in a step what the parts carry.
 same_reads : (t : Types) (net : Wiring) (f : Row) (state : Row) (carried : List Carried) (c : Constraint) → IsMember c net.constraints → IsTrue (row_fits t net.provides f) → CarriedFits t net carried
@@ -69,34 +68,31 @@ module _ (t : Types) (n : ℕ) where
   abbrev ClaimPart : Part → Type 0
   ClaimPart p = Claim p.design
 
-  abbrev Claimed : Type 0
-  Claimed = (p : Part) × ClaimPart p
-
   cat_case : (provides requires_ : List Port) (rows : List CatRow) → Claim (Cat provides requires_ rows)
   cat_case provides requires_ rows f r w typed h =
       let k = rw Holds-Cat at h in
       let named = by_row t provides requires_ rows f r w k.1 in
       rw IsFeasibleIn-Cat (k.0, (named.0, named.2))
 
-  branch_case : (es : List Claimed) (m : ℕ) (f r : Row) (inner : Witness) → Each (λ p. IsTyped t p.design) (map (λ e. e.0) es)
-      → IsSomeAnd (slice_get (map (λ e. e.0) es) m) (λ b. Holds t b.design f r inner) → IsSomeAnd (slice_get (map (λ e. e.0) es) m) (λ b. IsFeasibleIn t n b.design f r)
-  branch_case [] m f r inner typed h = absurd h
-  branch_case (e ∷ es) zero f r inner typed h = e.1 f r inner typed.0 h
-  branch_case (e ∷ es) (suc m) f r inner typed h = branch_case es m f r inner typed.1 h
+  branch_case : (branches : List Part) → Each ClaimPart branches → (m : ℕ) (f r : Row) (inner : Witness) → Each (λ p. IsTyped t p.design) branches
+      → IsSomeAnd (slice_get branches m) (λ b. Holds t b.design f r inner) → IsSomeAnd (slice_get branches m) (λ b. IsFeasibleIn t n b.design f r)
+  branch_case [] claims m f r inner typed h = absurd h
+  branch_case (b ∷ branches) claims zero f r inner typed h = claims.0 f r inner typed.0 h
+  branch_case (b ∷ branches) claims (suc m) f r inner typed h = branch_case branches claims.1 m f r inner typed.1 h
 
-  choice_case : (provides requires_ : List Port) (es : List Claimed) → Claim (Choice provides requires_ (map (λ e. e.0) es))
-  choice_case provides requires_ es f r w typed h =
+  choice_case : (provides requires_ : List Port) (branches : List Part) → Each ClaimPart branches → Claim (Choice provides requires_ branches)
+  choice_case provides requires_ branches claims f r w typed h =
       let k = rw Holds-Choice at h in
       let is = rw IsTyped-Choice at typed in
-      let named = by_branch t provides requires_ (map (λ e. e.0) es) f r w k.1 in
-      rw IsFeasibleIn-Choice (k.0, (named.0, branch_case es named.0 f r named.1 is.typed named.3))
+      let named = by_branch t provides requires_ branches f r w k.1 in
+      rw IsFeasibleIn-Choice (k.0, (named.0, branch_case branches claims named.0 f r named.1 is.typed named.3))
 
-  parts_case : (es : List Claimed) (ws : List PartWitness) → Each (λ p. IsTyped t p.design) (map (λ e. e.0) es)
-      → Pointwise (PartHolds (λ p. Holds t p.design)) (map (λ e. e.0) es) ws → EachFeasible (λ p. IsFeasibleIn t n p.design) (map (λ e. e.0) es) (map carried_by ws)
-  parts_case [] [] typed h = tt
-  parts_case [] (w ∷ ws) typed h = absurd h
-  parts_case (e ∷ es) [] typed h = absurd h
-  parts_case (e ∷ es) (w ∷ ws) typed h = (e.1 w.provided w.required w.inner typed.0 h.0, parts_case es ws typed.1 h.1)
+  parts_case : (parts : List Part) → Each ClaimPart parts → (ws : List PartWitness) → Each (λ p. IsTyped t p.design) parts
+      → Pointwise (PartHolds (λ p. Holds t p.design)) parts ws → EachFeasible (λ p. IsFeasibleIn t n p.design) parts (map carried_by ws)
+  parts_case [] claims [] typed h = tt
+  parts_case [] claims (w ∷ ws) typed h = absurd h
+  parts_case (p ∷ parts) claims [] typed h = absurd h
+  parts_case (p ∷ parts) claims (w ∷ ws) typed h = (claims.0 w.provided w.required w.inner typed.0 h.0, parts_case parts claims.1 ws typed.1 h.1)
 
   -- The state that gives each signal what the parts carry steps to itself.
   steps_to_itself : (provides requires_ : List Port) (parts : List Part) (constraints : List Constraint) (f r : Row) (ws : List PartWitness)
@@ -153,21 +149,15 @@ module _ (t : Types) (n : ℕ) where
         covered = rw cut_is (covers_itself t (map carried_by ws) (cut_signals net) given.values given.carried given.fit);
       }
 
-  net_case : (provides requires_ : List Port) (es : List Claimed) (constraints : List Constraint) → Claim (Net provides requires_ (map (λ e. e.0) es) constraints)
-  net_case provides requires_ es constraints f r w typed h =
+  net_case : (provides requires_ : List Port) (parts : List Part) (constraints : List Constraint) → Each ClaimPart parts → Claim (Net provides requires_ parts constraints)
+  net_case provides requires_ parts constraints claims f r w typed h =
       let k = rw Holds-Net at h in
       let is = rw IsTyped-Net at typed in
-      let named = by_parts t provides requires_ (map (λ e. e.0) es) constraints f r w k.1 in
-      rw IsFeasibleIn-Net (k.0, steps_to_itself provides requires_ (map (λ e. e.0) es) constraints f r named.0 is.each_constraint k.0 named.2 (parts_case es named.0 is.typed named.2.parts))
-
-  at : (y : Design-F ((d : Design) × Claim d) Claimed) → Claim (roll-Design (map-Design ((d : Design) × Claim d) Claimed Design Part (λ e. e.0) (λ e. e.0) y))
-  at (Design-F.Cat provides requires_ rows) = subst Claim (sym (rolls-Cat provides requires_ rows)) (cat_case provides requires_ rows)
-  at (Design-F.Choice provides requires_ es) = subst Claim (sym (rolls-Choice provides requires_ (map (λ e. e.0) es))) (choice_case provides requires_ es)
-  at (Design-F.Net provides requires_ es constraints) =
-      subst Claim (sym (rolls-Net provides requires_ (map (λ e. e.0) es) constraints)) (net_case provides requires_ es constraints)
+      let named = by_parts t provides requires_ parts constraints f r w k.1 in
+      rw IsFeasibleIn-Net (k.0, steps_to_itself provides requires_ parts constraints f r named.0 is.each_constraint k.0 named.2 (parts_case parts claims named.0 is.typed named.2.parts))
 
   pub holds_in_rounds : (d : Design) (f r : Row) (w : Witness) → IsTyped t d → Holds t d f r w → IsFeasibleIn t n d f r
-  holds_in_rounds = ind-Design Claim ClaimPart (λ x y is. subst (λ z. Claim (roll-Design z)) is (at y)) (λ x y is. subst (λ z. ClaimPart (roll-Part z)) is y.design.1)
+  holds_in_rounds = for_each_design Claim cat_case choice_case net_case
 
   pub feasible_in_rounds : (d : Design) (f r : Row) → IsTyped t d → IsFeasible t d f r → IsFeasibleIn t n d f r
   feasible_in_rounds d f r typed h = holds_in_rounds d f r h.0 typed h.1

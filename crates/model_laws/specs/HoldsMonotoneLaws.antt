@@ -15,11 +15,9 @@ use Rattle.design_model.specs.ValuesInOrder.{ReadsLeq}
 use Rattle.design_model.specs.ValuesInOrderLaws.{itself, rows_at, part_row_at}
 use Rattle.design_model.specs.Wiring.{Wiring, wiring_of, Carried, required_rows, readable}
 use Rattle.design_model.specs.declared.design.CatRow.{CatRow}
-use Rattle.design_model.specs.declared.design.Design.TheFolds.{ind-Design}
-use Rattle.design_model.specs.declared.design.Design.TheOpen.{Design-F}
-use Rattle.design_model.specs.declared.design.Design.TheVariants.{Cat, Choice, Net, rolls-Cat, rolls-Choice, rolls-Net}
-use Rattle.design_model.specs.declared.design.Design.{Design, roll-Design, map-Design}
-use Rattle.design_model.specs.declared.design.Part.{Part, roll-Part}
+use Rattle.design_model.specs.declared.design.Design.TheVariants.{Cat, Choice, Net}
+use Rattle.design_model.specs.declared.design.Design.{Design}
+use Rattle.design_model.specs.declared.design.Part.{Part}
 use Rattle.design_model.specs.declared.expr.Constraint.{Constraint}
 use Rattle.design_model.specs.declared.witness.PartWitness.{PartWitness}
 use Rattle.design_model.specs.declared.witness.Witness.TheVariants as witness
@@ -35,6 +33,7 @@ use Rattle.value_type.specs.Leq.{row_leq}
 use Rattle.value_type.specs.PortKinds.{port_kinds}
 use Rattle.value_type.specs.declared.port.Port.{Port}
 use Rattle.value_type.specs.declared.poset.Types.{Types}
+use Rattle.design_model.specs.DesignInductionLaws.{for_each_design}
 
 -- The witnesses' rows fit the ports of their parts.
 pub each_fits : (t : Types) (parts : List Part) (ws : List PartWitness) → Pointwise (PartHolds (λ p. Holds t p.design)) parts ws → EachFits t parts (map carried_by ws)
@@ -57,9 +56,6 @@ module _ (t : Types) where
 
   abbrev ClaimPart : Part → Type 0
   ClaimPart p = Claim p.design
-
-  abbrev Claimed : Type 0
-  Claimed = (p : Part) × ClaimPart p
 
   pub row_eases : (provides requires_ : List Port) (f g r s : Row) (row : CatRow) → IsTrue (row_is_typed t provides requires_ row) → Fit t provides requires_ f r → Eases t provides requires_ f g r s
       → RowHolds t provides requires_ f r row → RowHolds t provides requires_ g s row
@@ -86,29 +82,29 @@ module _ (t : Types) where
       go n (Some row) q is eases fit k = row_eases provides requires_ f g r s row (all_got (row_is_typed t provides requires_) rows n row q is.rows_fit) fit eases k
 
   -- The branch of this number holds with the eased rows, where it did.
-  branch_case : (provides requires_ : List Port) (es : List Claimed) (n : ℕ) (f g r s : Row) (inner : Witness)
-      → Each (HasPorts provides requires_) (map (λ e. e.0) es) → Each (λ p. IsTyped t p.design) (map (λ e. e.0) es) → Eases t provides requires_ f g r s
-      → IsSomeAnd (slice_get (map (λ e. e.0) es) n) (λ b. Holds t b.design f r inner) → IsSomeAnd (slice_get (map (λ e. e.0) es) n) (λ b. Holds t b.design g s inner)
-  branch_case provides requires_ [] n f g r s inner same typed eases h = absurd h
-  branch_case provides requires_ (e ∷ es) zero f g r s inner same typed eases h =
-      e.1 f g r s inner typed.0 (record {
+  branch_case : (provides requires_ : List Port) (branches : List Part) → Each ClaimPart branches → (n : ℕ) (f g r s : Row) (inner : Witness)
+      → Each (HasPorts provides requires_) branches → Each (λ p. IsTyped t p.design) branches → Eases t provides requires_ f g r s
+      → IsSomeAnd (slice_get branches n) (λ b. Holds t b.design f r inner) → IsSomeAnd (slice_get branches n) (λ b. Holds t b.design g s inner)
+  branch_case provides requires_ [] claims n f g r s inner same typed eases h = absurd h
+  branch_case provides requires_ (b ∷ branches) claims zero f g r s inner same typed eases h =
+      claims.0 f g r s inner typed.0 (record {
         fit = record { provided = rw same.0.provided eases.fit.provided; required = rw same.0.required eases.fit.required };
         less = rw same.0.provided eases.less;
         more = rw same.0.required eases.more;
       }) h
-  branch_case provides requires_ (e ∷ es) (suc n) f g r s inner same typed eases h = branch_case provides requires_ es n f g r s inner same.1 typed.1 eases h
+  branch_case provides requires_ (b ∷ branches) claims (suc n) f g r s inner same typed eases h = branch_case provides requires_ branches claims.1 n f g r s inner same.1 typed.1 eases h
 
-  choice_case : (provides requires_ : List Port) (es : List Claimed) → Claim (Choice provides requires_ (map (λ e. e.0) es))
-  choice_case provides requires_ es f g r s w typed e h =
+  choice_case : (provides requires_ : List Port) (branches : List Part) → Each ClaimPart branches → Claim (Choice provides requires_ branches)
+  choice_case provides requires_ branches claims f g r s w typed e h =
       let k = rw Holds-Choice at h in
       let is = rw IsTyped-Choice at typed in
       let eases : Eases t provides requires_ f g r s = rw (provided-Choice, required-Choice) at e in
-      let named = by_branch t provides requires_ (map (λ e. e.0) es) f r w k.1 in
-      subst (λ (z : Witness). Holds t (Choice provides requires_ (map (λ e. e.0) es)) g s z) (sym named.2)
-      (rw Holds-Choice (rw witness.outs-Branch (eases.fit, branch_case provides requires_ es named.0 f g r s named.1 is.same is.typed eases named.3)))
+      let named = by_branch t provides requires_ branches f r w k.1 in
+      subst (λ (z : Witness). Holds t (Choice provides requires_ branches) g s z) (sym named.2)
+      (rw Holds-Choice (rw witness.outs-Branch (eases.fit, branch_case provides requires_ branches claims named.0 f g r s named.1 is.same is.typed eases named.3)))
 
-  net_case : (provides requires_ : List Port) (parts : List Part) (constraints : List Constraint) → Claim (Net provides requires_ parts constraints)
-  net_case provides requires_ parts constraints f g r s w typed e h =
+  net_case : (provides requires_ : List Port) (parts : List Part) (constraints : List Constraint) → Each ClaimPart parts → Claim (Net provides requires_ parts constraints)
+  net_case provides requires_ parts constraints claims f g r s w typed e h =
       let k = rw Holds-Net at h in
       let is = rw IsTyped-Net at typed in
       let eases : Eases t provides requires_ f g r s = rw (provided-Net, required-Net) at e in
@@ -133,15 +129,9 @@ module _ (t : Types) where
                 (own_reads_fall t net f g carried fit.provided eases.fit.provided eases.less fits) (λ i j q. refl)) hold.constraints;
           }
 
-  at : (y : Design-F ((d : Design) × Claim d) Claimed) → Claim (roll-Design (map-Design ((d : Design) × Claim d) Claimed Design Part (λ e. e.0) (λ e. e.0) y))
-  at (Design-F.Cat provides requires_ rows) = subst Claim (sym (rolls-Cat provides requires_ rows)) (cat_case provides requires_ rows)
-  at (Design-F.Choice provides requires_ es) = subst Claim (sym (rolls-Choice provides requires_ (map (λ e. e.0) es))) (choice_case provides requires_ es)
-  at (Design-F.Net provides requires_ es constraints) =
-      subst Claim (sym (rolls-Net provides requires_ (map (λ e. e.0) es) constraints)) (net_case provides requires_ (map (λ e. e.0) es) constraints)
-
   -- A typed design that holds also holds with the eased rows, by the same witness.
   pub holds_eased : (d : Design) (f g r s : Row) (w : Witness) → IsTyped t d → Eases t (provided_ports d) (required_ports d) f g r s → Holds t d f r w → Holds t d g s w
-  holds_eased = ind-Design Claim ClaimPart (λ x y is. subst (λ z. Claim (roll-Design z)) is (at y)) (λ x y is. subst (λ z. ClaimPart (roll-Part z)) is y.design.1)
+  holds_eased = for_each_design Claim cat_case choice_case net_case
 
   pub feasible_eased : (d : Design) (f g r s : Row) → IsTyped t d → Eases t (provided_ports d) (required_ports d) f g r s → IsFeasible t d f r → IsFeasible t d g s
   feasible_eased d f g r s typed eases h = (h.0, holds_eased d f g r s h.0 typed eases h.1)

@@ -6,7 +6,6 @@ pub mod FeasibleRoundsLaws
 pub mod GatheredLaws
 pub mod HoldsMonotone
 pub mod HoldsMonotoneLaws
-pub mod KindFoldLaws
 pub mod NetLaws
 pub mod RoundsMonotoneLaws
 pub mod SatisfiedLaws

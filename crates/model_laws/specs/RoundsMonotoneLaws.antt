@@ -14,11 +14,9 @@ use Rattle.design_model.specs.Typed.{IsTyped, IsTypedCat, IsTypedNet, HasPorts, 
 use Rattle.design_model.specs.TypedLaws.{IsTyped-Cat, IsTyped-Choice, IsTyped-Net}
 use Rattle.design_model.specs.Wiring.{Wiring, wiring_of, Carried}
 use Rattle.design_model.specs.declared.design.CatRow.{CatRow}
-use Rattle.design_model.specs.declared.design.Design.TheFolds.{ind-Design}
-use Rattle.design_model.specs.declared.design.Design.TheOpen.{Design-F}
-use Rattle.design_model.specs.declared.design.Design.TheVariants.{Cat, Choice, Net, rolls-Cat, rolls-Choice, rolls-Net}
-use Rattle.design_model.specs.declared.design.Design.{Design, roll-Design, map-Design}
-use Rattle.design_model.specs.declared.design.Part.{Part, roll-Part}
+use Rattle.design_model.specs.declared.design.Design.TheVariants.{Cat, Choice, Net}
+use Rattle.design_model.specs.declared.design.Design.{Design}
+use Rattle.design_model.specs.declared.design.Part.{Part}
 use Rattle.design_model.specs.declared.expr.Constraint.{Constraint}
 use Rattle.model_laws.specs.HoldsMonotone.{Eases}
 use Rattle.model_laws.specs.HoldsMonotoneLaws.{row_eases}
@@ -33,6 +31,7 @@ use Rattle.value_type.specs.KindOrderLaws.{row_laws}
 use Rattle.value_type.specs.Leq.{row_leq}
 use Rattle.value_type.specs.declared.port.Port.{Port}
 use Rattle.value_type.specs.declared.poset.Types.{Types}
+use Rattle.design_model.specs.DesignInductionLaws.{for_each_design}
 
 -- What parts carry where they are feasible fits their ports.
 pub feasible_carried_fits : (t : Types) (n : ℕ) (provides requires_ : List Port) (parts : List Part) (constraints : List Constraint) (carried : List Carried)
@@ -48,9 +47,6 @@ module _ (t : Types) (n : ℕ) where
   abbrev ClaimPart : Part → Type 0
   ClaimPart p = Claim p.design
 
-  abbrev Claimed : Type 0
-  Claimed = (p : Part) × ClaimPart p
-
   cat_case : (provides requires_ : List Port) (rows : List CatRow) → Claim (Cat provides requires_ rows)
   cat_case provides requires_ rows f g r s typed e h =
       let k = rw IsFeasibleIn-Cat at h in
@@ -63,27 +59,27 @@ module _ (t : Types) (n : ℕ) where
       go m None q is eases fit k = absurd k
       go m (Some row) q is eases fit k = row_eases t provides requires_ f g r s row (all_got (row_is_typed t provides requires_) rows m row q is.rows_fit) fit eases k
 
-  branch_case : (provides requires_ : List Port) (es : List Claimed) (m : ℕ) (f g r s : Row)
-      → Each (HasPorts provides requires_) (map (λ e. e.0) es) → Each (λ p. IsTyped t p.design) (map (λ e. e.0) es) → Eases t provides requires_ f g r s
-      → IsSomeAnd (slice_get (map (λ e. e.0) es) m) (λ b. IsFeasibleIn t n b.design f r) → IsSomeAnd (slice_get (map (λ e. e.0) es) m) (λ b. IsFeasibleIn t n b.design g s)
-  branch_case provides requires_ [] m f g r s same typed eases h = absurd h
-  branch_case provides requires_ (e ∷ es) zero f g r s same typed eases h =
-      e.1 f g r s typed.0 (record {
+  branch_case : (provides requires_ : List Port) (branches : List Part) → Each ClaimPart branches → (m : ℕ) (f g r s : Row)
+      → Each (HasPorts provides requires_) branches → Each (λ p. IsTyped t p.design) branches → Eases t provides requires_ f g r s
+      → IsSomeAnd (slice_get branches m) (λ b. IsFeasibleIn t n b.design f r) → IsSomeAnd (slice_get branches m) (λ b. IsFeasibleIn t n b.design g s)
+  branch_case provides requires_ [] claims m f g r s same typed eases h = absurd h
+  branch_case provides requires_ (b ∷ branches) claims zero f g r s same typed eases h =
+      claims.0 f g r s typed.0 (record {
         fit = record { provided = rw same.0.provided eases.fit.provided; required = rw same.0.required eases.fit.required };
         less = rw same.0.provided eases.less;
         more = rw same.0.required eases.more;
       }) h
-  branch_case provides requires_ (e ∷ es) (suc m) f g r s same typed eases h = branch_case provides requires_ es m f g r s same.1 typed.1 eases h
+  branch_case provides requires_ (b ∷ branches) claims (suc m) f g r s same typed eases h = branch_case provides requires_ branches claims.1 m f g r s same.1 typed.1 eases h
 
-  choice_case : (provides requires_ : List Port) (es : List Claimed) → Claim (Choice provides requires_ (map (λ e. e.0) es))
-  choice_case provides requires_ es f g r s typed e h =
+  choice_case : (provides requires_ : List Port) (branches : List Part) → Each ClaimPart branches → Claim (Choice provides requires_ branches)
+  choice_case provides requires_ branches claims f g r s typed e h =
       let k = rw IsFeasibleIn-Choice at h in
       let is = rw IsTyped-Choice at typed in
       let eases : Eases t provides requires_ f g r s = rw (provided-Choice, required-Choice) at e in
-      rw IsFeasibleIn-Choice (eases.fit, (k.1.0, branch_case provides requires_ es k.1.0 f g r s is.same is.typed eases k.1.1))
+      rw IsFeasibleIn-Choice (eases.fit, (k.1.0, branch_case provides requires_ branches claims k.1.0 f g r s is.same is.typed eases k.1.1))
 
-  net_case : (provides requires_ : List Port) (parts : List Part) (constraints : List Constraint) → Claim (Net provides requires_ parts constraints)
-  net_case provides requires_ parts constraints f g r s typed e h =
+  net_case : (provides requires_ : List Port) (parts : List Part) (constraints : List Constraint) → Each ClaimPart parts → Claim (Net provides requires_ parts constraints)
+  net_case provides requires_ parts constraints claims f g r s typed e h =
       let k = rw IsFeasibleIn-Net at h in
       let is = rw IsTyped-Net at typed in
       let eases : Eases t provides requires_ f g r s = rw (provided-Net, required-Net) at e in
@@ -115,12 +111,6 @@ module _ (t : Types) (n : ℕ) where
             own = join_drop t (cut_signals net) (cut_values net some.state) s cuts;
           }
 
-  at : (y : Design-F ((d : Design) × Claim d) Claimed) → Claim (roll-Design (map-Design ((d : Design) × Claim d) Claimed Design Part (λ e. e.0) (λ e. e.0) y))
-  at (Design-F.Cat provides requires_ rows) = subst Claim (sym (rolls-Cat provides requires_ rows)) (cat_case provides requires_ rows)
-  at (Design-F.Choice provides requires_ es) = subst Claim (sym (rolls-Choice provides requires_ (map (λ e. e.0) es))) (choice_case provides requires_ es)
-  at (Design-F.Net provides requires_ es constraints) =
-      subst Claim (sym (rolls-Net provides requires_ (map (λ e. e.0) es) constraints)) (net_case provides requires_ (map (λ e. e.0) es) constraints)
-
   -- A typed design that is feasible in n rounds is so with the eased rows too.
   pub feasible_in_eased : (d : Design) (f g r s : Row) → IsTyped t d → Eases t (provided_ports d) (required_ports d) f g r s → IsFeasibleIn t n d f r → IsFeasibleIn t n d g s
-  feasible_in_eased = ind-Design Claim ClaimPart (λ x y is. subst (λ z. Claim (roll-Design z)) is (at y)) (λ x y is. subst (λ z. ClaimPart (roll-Part z)) is y.design.1)
+  feasible_in_eased = for_each_design Claim cat_case choice_case net_case

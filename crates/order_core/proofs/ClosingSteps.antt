@@ -9,9 +9,10 @@ use Rattle.order_core.specs.Mutual.{AreMutual, NoneMutual, IsFirstMutual}
 use Rattle.std.specs.List.{list_all}
 use Rattle.order_core.specs.MemberLaws.{first, second, all_at}
 use Rattle.order_core.specs.Walk.{WalksAlong, Walk, IsClosure, is_pair_below, BothWays, IsFirstCycle}
-use Rattle.order_core.proofs.WalkLaws.{walk_none, walk_join, walk_more, Led, walk_led, led_walk}
+use Rattle.order_core.specs.WalkLaws.{walk_none, walk_join, walk_more, Led, walk_led, led_walk, both_below}
 use Rattle.order_core.specs.Word.{has}
-use Rattle.order_core.proofs.WordLaws.{has_or, has_one, has_other}
+use Rattle.order_core.specs.WordLaws.{has_or, has_one, has_other}
+use Rattle.std.proofs.Math.Bool.{or-true}
 
 pub closure_none : (n : ℕ) (table : List ℕ) → length table ≡ n → ((k : ℕ) → k < n → get_or table k 0 ≡ 2 ^ k) → IsClosure n [] table
 closure_none n table size rows = record { size = size; walks = λ a b l k. (there a b l, λ w. back a b l w.0 w.1) }
@@ -80,21 +81,17 @@ module _ (n : ℕ) (pairs : List (ℕ × ℕ)) (table : List ℕ) (closed : IsCl
       back i j l k (inr w) =
           let yes : is_below table i a ≡ true = (closed.walks i a l a_below).1 w.0 in
           let too : is_below table b j ≡ true = (closed.walks b j b_below k).1 w.1 in
-          row_is i j l ∙ rw (yes, too) (or_true (is_below table i j))
-        where
-          or_true : (t : Bool) → t || true ≡ true
-          or_true true = refl
-          or_true false = refl
+          row_is i j l ∙ rw (yes, too) (or-true (is_below table i j))
 
 module _ (n : ℕ) (pairs : List (ℕ × ℕ)) (i : ℕ) (within : i < length pairs) (below : IsTrue (list_all (is_pair_below n) pairs)) where
   below_n : IsTrue (is_pair_below n (get_or pairs i (0, 0)))
   below_n = all_at (is_pair_below n) pairs i (0, 0) below within
 
   pub first_below : (get_or pairs i (0, 0)).0 < n
-  first_below = ltb-true _ _ (first _ _ below_n)
+  first_below = (both_below n (get_or pairs i (0, 0)) below_n).0
 
   second_below : (get_or pairs i (0, 0)).1 < n
-  second_below = ltb-true _ _ (second (nat_lt (get_or pairs i (0, 0)).0 n) _ below_n)
+  second_below = (both_below n (get_or pairs i (0, 0)) below_n).1
 
   -- One pair more, whether it adds walks or not.
   module _ (table made : List ℕ) (closed : IsClosure n (take i pairs) table) where

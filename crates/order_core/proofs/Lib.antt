@@ -4,8 +4,5 @@ pub mod Growth
 pub mod MinimalLaws
 pub mod MinimalListed
 pub mod MinimalSteps
-pub mod NumbersBelowLaws
 pub mod PointwiseLemmas
 pub mod ProductLemmas
-pub mod WalkLaws
-pub mod WordLaws

@@ -4,14 +4,14 @@ use Rattle.std.proofs.lemmas.Bool.{ltb-true, lt-ltb, or_left}
 use Rattle.std.specs.Int.Bits.{bit_and}
 use Rattle.std.specs.List.{list_all}
 use Rattle.std.specs.Prelude.{◌≡◌, ◌+◌, ◌-◌, ◌^◌, ◌<◌, ◌&&◌, ℕ, Bool, nat_le, IsTrue, List, [], ◌∷◌, length, slice_index}
-use Rattle.order_core.proofs.NumbersBelowLaws.{number_passes, passing_number}
-use Rattle.order_core.proofs.WordLaws.{has_and, has_all}
+use Rattle.order_core.specs.NumbersBelowLaws.{number_passes, passing_number}
+use Rattle.order_core.specs.WordLaws.{has_and, has_all}
 use Rattle.order_core.specs.DescentLaws.{minimal_below}
 use Rattle.order_core.specs.Finite.{is_element, is_below, IsTable}
 use Rattle.order_core.specs.IncomparableLaws.{apart_intro}
 use Rattle.order_core.specs.MemberLaws.{first, second, both, any_intro, all_elim, all_intro}
 use Rattle.order_core.specs.Members.{IsMember}
-use Rattle.order_core.specs.MinimalElements.{IsIn, AreMinimal}
+use Rattle.order_core.specs.MinimalElements.{IsHeld, AreMinimal}
 use Rattle.order_core.specs.Order.{IsLeast, AreBounds, apart, are_incomparable}
 use Rattle.order_core.specs.Upper.{rise_from, is_upper, is_in, upper_leq}
 use Rattle.order_core.specs.UpperLaws.{at_least}
@@ -28,7 +28,7 @@ rising_incomparable leq k (x ∷ xs) h same = both _ _
     (rising_incomparable leq (x + 1) xs (second (nat_le k x) _ h) (λ v w m n. same v w (inr m) (inr n)))
 
 module _ (table : List ℕ) (is_table : IsTable table) (word : ℕ) (xs : List ℕ) (minimal : AreMinimal table word xs) where
-  pub minimal_in_set : (x : ℕ) → IsMember x xs → IsIn table word x
+  pub minimal_in_set : (x : ℕ) → IsMember x xs → IsHeld table word x
   minimal_in_set x m = ((minimal.members x).0 m).element
 
   pub minimal_upper : IsTrue (is_upper table xs)
@@ -36,7 +36,7 @@ module _ (table : List ℕ) (is_table : IsTable table) (word : ℕ) (xs : List �
       (all_intro (is_element table) xs (λ w m. (minimal_in_set w m).0))
       (both _ _ minimal.rising (rising_incomparable (is_below table) 0 xs minimal.rising (λ v w m n l. ((minimal.members w).0 n).least v (minimal_in_set v m) l)))
 
-  pub minimal_reach : (x : ℕ) → IsIn table word x → IsTrue (is_in table xs x)
+  pub minimal_reach : (x : ℕ) → IsHeld table word x → IsTrue (is_in table xs x)
   minimal_reach x h =
       let all = members_below (length table) word in
       let values : IsTrue (list_all (is_element table) all) = all_intro (is_element table) all (λ w m. lt-ltb _ _ (number_passes (has word) (length table) w m).0) in
@@ -44,10 +44,10 @@ module _ (table : List ℕ) (is_table : IsTable table) (word : ℕ) (xs : List �
       any_intro (λ y. is_below table y x) xs d.0
       ((minimal.members d.0).1 (record { element = back d.0 d.1.element; least = λ y k l. d.1.least y (into y k) l })) d.2
     where
-      into : (y : ℕ) → IsIn table word y → IsMember y (members_below (length table) word)
+      into : (y : ℕ) → IsHeld table word y → IsMember y (members_below (length table) word)
       into y k = passing_number (has word) (length table) y (ltb-true _ _ k.0) k.1
 
-      back : (y : ℕ) → IsMember y (members_below (length table) word) → IsIn table word y
+      back : (y : ℕ) → IsMember y (members_below (length table) word) → IsHeld table word y
       back y m = let r = number_passes (has word) (length table) y m in (lt-ltb _ _ r.0, r.1)
 
 -- The least elements of a finite order, and its bounds of two elements.

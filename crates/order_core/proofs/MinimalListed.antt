@@ -7,9 +7,9 @@ use Rattle.order_core.specs.Finite.{is_element, is_below, IsTable}
 use Rattle.order_core.specs.Members.{IsMember}
 use Rattle.order_core.specs.MemberLaws.{first, second, both, any_elim, any_intro, all_elim, all_intro}
 use Rattle.order_core.specs.Minimal.{IsMinimal}
-use Rattle.order_core.specs.MinimalElements.{IsIn, AreMinimal, is_minimal_in, minimal_of}
+use Rattle.order_core.specs.MinimalElements.{IsHeld, AreMinimal, is_minimal_in, minimal_of}
 use Rattle.order_core.proofs.MinimalLaws.{minimal_upper, minimal_reach}
-use Rattle.order_core.proofs.NumbersBelowLaws.{number_passes, passing_number, numbers_rise}
+use Rattle.order_core.specs.NumbersBelowLaws.{number_passes, passing_number, numbers_rise}
 use Rattle.order_core.specs.Upper.{is_upper, is_in, upper_leq}
 use Rattle.order_core.specs.UpperLaws.{rising_same}
 use Rattle.order_core.specs.Word.{has}
@@ -26,10 +26,10 @@ module _ (table : List ℕ) (is_table : IsTable table) (elements : List ℕ) (va
   is_listed x m = any_intro (nat_eq x) elements x m (eq-eqb x x refl)
 
   -- in the word, and listed
-  into : (x : ℕ) → IsMember x elements → IsIn table word x
+  into : (x : ℕ) → IsMember x elements → IsHeld table word x
   into x m = (all_elim (is_element table) elements x values m, holds x ∙ is_listed x m)
 
-  from : (x : ℕ) → IsIn table word x → IsMember x elements
+  from : (x : ℕ) → IsHeld table word x → IsMember x elements
   from x h = listed x (sym (holds x) ∙ h.1)
 
   pub members : (x : ℕ) → IsMember x xs ↔ IsMinimal (is_below table) (λ y. IsMember y elements) x

@@ -8,11 +8,11 @@ use Rattle.order_core.specs.Finite.{is_below}
 use Rattle.order_core.specs.Members.{IsMember}
 use Rattle.order_core.specs.MemberLaws.{first, second, both, true_not, not_true}
 use Rattle.order_core.specs.Minimal.{IsMinimal}
-use Rattle.order_core.specs.MinimalElements.{IsIn, IsCovered, AreMinimal}
-use Rattle.order_core.proofs.NumbersBelowLaws.{number_passes, passing_number, numbers_rise}
+use Rattle.order_core.specs.MinimalElements.{IsHeld, IsCovered, AreMinimal}
+use Rattle.order_core.specs.NumbersBelowLaws.{number_passes, passing_number, numbers_rise}
 use Rattle.order_core.specs.Upper.{rise_from}
 use Rattle.order_core.specs.Word.{has, members_below}
-use Rattle.order_core.proofs.WordLaws.{has_none, has_or, has_and, has_not, has_cleared, has_kept}
+use Rattle.order_core.specs.WordLaws.{has_none, has_or, has_and, has_not, has_cleared, has_kept}
 
 pub none_covered : (table : List ℕ) (word x : ℕ) → x < 64 → IsTrue (has 0 x) ↔ IsCovered 0 table word x
 none_covered table word x l = (λ h. let no = has_none x in absurd (cc), λ h. absurd (omega (arith, h.1)))
@@ -71,17 +71,17 @@ minimal_left table word covered xs few fits covers e = record {
     left_is : (x : ℕ) → x < length table → has (bit_and word (bit_not w64 covered)) x ≡ has word x && not (has covered x)
     left_is x l = has_and word (bit_not w64 covered) x ∙ ap (λ t. has word x && t) (has_not covered x fits (omega arith))
 
-    there : (x : ℕ) → (x < length table) × IsTrue (has (bit_and word (bit_not w64 covered)) x) → IsMinimal (is_below table) (IsIn table word) x
+    there : (x : ℕ) → (x < length table) × IsTrue (has (bit_and word (bit_not w64 covered)) x) → IsMinimal (is_below table) (IsHeld table word) x
     there x (l, h) =
         let both_parts = sym (left_is x l) ∙ h in
         let off : has covered x ≡ false = not_true _ (second (has word x) _ both_parts) in
         record { element = (lt-ltb _ _ l, first _ _ both_parts); least = λ y i b. least off y i b (cases_eq y x) }
       where
-        least : has covered x ≡ false → (y : ℕ) → IsIn table word y → IsTrue (is_below table y x) → (y ≡ x) ⊎ (y ≡ x → ⊥) → y ≡ x
+        least : has covered x ≡ false → (y : ℕ) → IsHeld table word y → IsTrue (is_below table y x) → (y ≡ x) ⊎ (y ≡ x → ⊥) → y ≡ x
         least off y i b (inl f) = f
         least off y i b (inr f) = let on : has covered x ≡ true = (covers x (omega arith)).1 (y, ltb-true _ _ i.0, i.1, f, b) in absurd (cc)
 
-    back : (x : ℕ) → IsMinimal (is_below table) (IsIn table word) x → IsMember x (members_below (length table) (bit_and word (bit_not w64 covered)))
+    back : (x : ℕ) → IsMinimal (is_below table) (IsHeld table word) x → IsMember x (members_below (length table) (bit_and word (bit_not w64 covered)))
     back x h = passing_number (has (bit_and word (bit_not w64 covered))) (length table) x l (left_is x l ∙ both _ _ h.element.1 (true_not _ (off (has covered x) refl)))
       where
         l : x < length table

@@ -3,6 +3,7 @@
 pub mod ChainLaws
 pub mod Chains
 pub mod Closing
+pub mod CountLaws
 pub mod DescentLaws
 pub mod Embedding
 pub mod EmbeddingLaws
@@ -16,6 +17,7 @@ pub mod MinimalElements
 pub mod Mutual
 pub mod Num
 pub mod NumbersBelow
+pub mod NumbersBelowLaws
 pub mod NumLaws
 pub mod Order
 pub mod PartnerLaws
@@ -24,10 +26,13 @@ pub mod Pointwise
 pub mod PointwiseLaws
 pub mod ProductLaws
 pub mod Products
+pub mod ResultLaws
 pub mod TotalOrderLaws
 pub mod Tuple
 pub mod TupleLaws
 pub mod Upper
 pub mod UpperLaws
 pub mod Walk
+pub mod WalkLaws
 pub mod Word
+pub mod WordLaws

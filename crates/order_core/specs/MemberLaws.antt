@@ -1,7 +1,9 @@
 -- The members of a list, and tests of all or some of them.
 use Rattle.std.proofs.Common.{slice_get, Some, subst, arith, ℕ, zero, suc, ◌<◌, length, get_or, ◌≡◌, ◌∙◌, refl, sym, ap, Bool, true, false, ◌&&◌, ◌||◌, not, IsTrue, List, [], ◌∷◌, ◌++◌, cond, filter, map, ◌⊎◌, inl, inr}
-use Rattle.std.specs.List.{list_all, list_any, flat_map}
+use Rattle.std.specs.List.{list_all, list_any, flat_map, Contains}
 use Rattle.order_core.specs.Members.{IsMember}
+use Rattle.std.proofs.Math.Bool.{or-true}
+pub use Rattle.std.proofs.lemmas.Bool.{not-true as not_true, not_from_false as true_not}
 
 pub first : (a b : Bool) → IsTrue (a && b) → IsTrue a
 first true b h = refl
@@ -15,12 +17,9 @@ pub both : (a b : Bool) → IsTrue a → IsTrue b → IsTrue (a && b)
 both true b h k = k
 both false b h k = absurd (cc)
 
-pub not_true : (b : Bool) → IsTrue (not b) → b ≡ false
-not_true true h = absurd (cc)
-not_true false h = refl
-
-pub true_not : (b : Bool) → b ≡ false → IsTrue (not b)
-true_not b e = rw e refl
+pub not_both : (b : Bool) → IsTrue (not b) → IsTrue b → ⊥
+not_both true h k = cc
+not_both false h k = cc
 
 pub decide : (b : Bool) → IsTrue b ⊎ (b ≡ false)
 decide true = inl refl
@@ -37,14 +36,10 @@ any_elim {A = A} p (x ∷ xs) h = go (p x) refl (any_elim p xs)
         let h3 : false || list_any p xs ≡ true = rw e at h2 in
         let r = ih h3 in (r.0, inr r.1, r.2)
 
-or_true : (b : Bool) → b || true ≡ true
-or_true true = refl
-or_true false = refl
-
 pub any_intro : {A : Type 0} (p : A → Bool) (xs : List A) (w : A) → IsMember w xs → IsTrue (p w) → IsTrue (list_any p xs)
 any_intro p [] w m h = absurd m
 any_intro p (x ∷ xs) w (inl e) h = let at : p x ≡ true = sym (ap p e) ∙ h in rw at refl
-any_intro p (x ∷ xs) w (inr m) h = let ih : list_any p xs ≡ true = any_intro p xs w m h in rw ih (or_true (p x))
+any_intro p (x ∷ xs) w (inr m) h = let ih : list_any p xs ≡ true = any_intro p xs w m h in rw ih (or-true (p x))
 
 -- no item passes
 pub none_elim : {A : Type 0} (p : A → Bool) (xs : List A) (w : A) → list_any p xs ≡ false → IsMember w xs → IsTrue (p w) → ⊥
@@ -155,3 +150,31 @@ pub all_got : {A : Type 0} (p : A → Bool) (xs : List A) (i : ℕ) (x : A) → 
 all_got p [] i x e h = absurd (cc)
 all_got p (y ∷ ys) zero x e h = let same : y ≡ x = cc in subst (λ z. IsTrue (p z)) same (first _ _ h)
 all_got p (y ∷ ys) (suc i) x e h = all_got p ys i x e (second (p y) _ h)
+
+-- std's word for a member goes by places.
+pub contains_member : {A : Type 0} (xs : List A) (x : A) → IsMember x xs → Contains xs x
+contains_member [] x m = absurd m
+contains_member (y ∷ ys) x (inl e) = (0, omega arith, sym e)
+contains_member (y ∷ ys) x (inr m) = let k = contains_member ys x m in (suc k.0, omega (arith, k.1), k.2)
+
+pub member_at : {A : Type 0} (xs : List A) (i : ℕ) (d : A) → i < length xs → IsMember (get_or xs i d) xs
+member_at [] i d inside = absurd (omega arith)
+member_at (x ∷ xs) zero d inside = inl refl
+member_at (x ∷ xs) (suc i) d inside = inr (member_at xs i d (omega arith))
+
+pub member_contained : {A : Type 0} (xs : List A) (x : A) → Contains xs x → IsMember x xs
+member_contained xs x h = subst (λ y. IsMember y xs) h.2 (member_at xs h.0 x h.1)
+
+pub got_member : {A : Type 0} (xs : List A) (i : ℕ) (x : A) → slice_get xs i ≡ Some x → IsMember x xs
+got_member [] i x e = absurd (cc)
+got_member (y ∷ ys) zero x e = let is : y ≡ x = cc in inl (sym is)
+got_member (y ∷ ys) (suc i) x e = inr (got_member ys i x e)
+
+-- Tests that agree on the members filter and find the same.
+pub filter_same : {A : Type 0} (p q : A → Bool) (xs : List A) → ((x : A) → IsMember x xs → p x ≡ q x) → filter p xs ≡ filter q xs
+filter_same p q [] h = refl
+filter_same p q (x ∷ xs) h = rw (h x (inl refl), filter_same p q xs (λ y m. h y (inr m))) refl
+
+pub any_same : {A : Type 0} (p q : A → Bool) (xs : List A) → ((x : A) → IsMember x xs → p x ≡ q x) → list_any p xs ≡ list_any q xs
+any_same p q [] h = refl
+any_same p q (x ∷ xs) h = rw (h x (inl refl), any_same p q xs (λ y m. h y (inr m))) refl

@@ -9,8 +9,8 @@ use Rattle.order_core.specs.Upper.{rise_from}
 use Rattle.order_core.specs.Word.{has}
 
 -- The element is in the set that the word holds.
-abbrev pub IsIn : List ℕ → ℕ → ℕ → Type 0
-IsIn table word x = IsTrue (is_element table x) × IsTrue (has word x)
+abbrev pub IsHeld : List ℕ → ℕ → ℕ → Type 0
+IsHeld table word x = IsTrue (is_element table x) × IsTrue (has word x)
 
 -- Another number of the set, one below k, is at most x.
 abbrev pub IsCovered : ℕ → List ℕ → ℕ → ℕ → Type 0
@@ -19,7 +19,7 @@ IsCovered k table word x = (y : ℕ) × (y < k) × IsTrue (has word y) × (y ≢
 -- The rising list of the minimal elements of the set.
 pub record AreMinimal (table : List ℕ) (word : ℕ) (xs : List ℕ) : Type 0 where
   pub rising : IsTrue (rise_from 0 xs)
-  pub members : (x : ℕ) → IsMember x xs ↔ IsMinimal (is_below table) (IsIn table word) x
+  pub members : (x : ℕ) → IsMember x xs ↔ IsMinimal (is_below table) (IsHeld table word) x
 
 -- The number is listed, and no other listed one is at most it.
 abbrev pub is_minimal_in : List ℕ → List ℕ → ℕ → Bool

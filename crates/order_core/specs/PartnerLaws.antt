@@ -4,16 +4,13 @@ use Rattle.std.proofs.lemmas.List.{drop_more, drop_all}
 use Rattle.order_core.specs.MemberLaws.{first, second, append_nil}
 use Rattle.order_core.specs.Order.{IsLeast, AreBounds}
 use Rattle.order_core.specs.Tuple.{are_values, tuple_leq, AreAllLeast, AreAllBounds}
-
-and_false : (a : Bool) → a && false ≡ false
-and_false true = refl
-and_false false = refl
+use Rattle.std.proofs.Math.Bool.{and-false}
 
 pub are_values_unequal : {P A : Type 0} (f : P → A → Bool) (ps : List P) (xs : List A) → length ps ≢ length xs → are_values (map f ps) xs ≡ false
 are_values_unequal f [] [] h = absurd (h refl)
 are_values_unequal f [] (x ∷ xs) h = refl
 are_values_unequal f (p ∷ ps) [] h = refl
-are_values_unequal f (p ∷ ps) (x ∷ xs) h = rw (are_values_unequal f ps xs (λ e. h (ap suc e))) (and_false (f p x))
+are_values_unequal f (p ∷ ps) (x ∷ xs) h = rw (are_values_unequal f ps xs (λ e. h (ap suc e))) (and-false (f p x))
 
 -- Lists of other lengths are in no order.
 pub unequal_lower : {P A : Type 0} (f : P → A → A → Bool) (ps : List P) (xs ys : List A) → length ps ≢ length xs → tuple_leq (map f ps) xs ys ≡ false
@@ -21,7 +18,7 @@ unequal_lower f [] [] ys h = absurd (h refl)
 unequal_lower f [] (x ∷ xs) ys h = refl
 unequal_lower f (p ∷ ps) [] ys h = refl
 unequal_lower f (p ∷ ps) (x ∷ xs) [] h = refl
-unequal_lower f (p ∷ ps) (x ∷ xs) (y ∷ ys) h = rw (unequal_lower f ps xs ys (λ e. h (ap suc e))) (and_false (f p x y))
+unequal_lower f (p ∷ ps) (x ∷ xs) (y ∷ ys) h = rw (unequal_lower f ps xs ys (λ e. h (ap suc e))) (and-false (f p x y))
 
 pub unequal_upper : {P A : Type 0} (f : P → A → A → Bool) (ps : List P) (xs ys : List A) → length ps ≢ length ys → tuple_leq (map f ps) xs ys ≡ false
 unequal_upper f [] [] [] h = absurd (h refl)
@@ -29,7 +26,7 @@ unequal_upper f [] [] (y ∷ ys) h = refl
 unequal_upper f [] (x ∷ xs) ys h = refl
 unequal_upper f (p ∷ ps) [] ys h = refl
 unequal_upper f (p ∷ ps) (x ∷ xs) [] h = refl
-unequal_upper f (p ∷ ps) (x ∷ xs) (y ∷ ys) h = rw (unequal_upper f ps xs ys (λ e. h (ap suc e))) (and_false (f p x y))
+unequal_upper f (p ∷ ps) (x ∷ xs) (y ∷ ys) h = rw (unequal_upper f ps xs ys (λ e. h (ap suc e))) (and-false (f p x y))
 
 pub are_values_length : {P A : Type 0} (f : P → A → Bool) (ps : List P) (xs : List A) → IsTrue (are_values (map f ps) xs) → length ps ≡ length xs
 are_values_length f [] [] h = refl

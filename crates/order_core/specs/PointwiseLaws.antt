@@ -1,6 +1,7 @@
 -- What holds of each item of a list, or of each pair of partners in two lists of the same length.
-use Rattle.std.proofs.Common.{refl, ap, sym, subst, inl, inr}
+use Rattle.std.proofs.Common.{refl, ap, sym, subst, inl, inr, ◌++◌, arith}
 use Rattle.std.specs.Prelude.{◌≡◌, ℕ, zero, suc, List, [], ◌∷◌, map, length, slice_get, IsSomeAnd, Some}
+use Rattle.std.specs.List.{All}
 use Rattle.order_core.specs.Members.{IsMember}
 use Rattle.order_core.specs.Pointwise.{Each, Pointwise}
 
@@ -52,3 +53,17 @@ pointwise_got R [] ys i x p e = absurd (cc)
 pointwise_got R (z ∷ xs) [] i x p e = absurd p
 pointwise_got R (z ∷ xs) (y ∷ ys) zero x p e = let same : z ≡ x = cc in (y, refl, subst (λ w. R w y) same p.0)
 pointwise_got R (z ∷ xs) (y ∷ ys) (suc i) x p e = pointwise_got R xs ys i x p.1 e
+
+-- std's word for each item goes by places.
+pub each_all : {A : Type 0} (P : A → Type 0) (xs : List A) → Each P xs → All P xs
+each_all P [] h i d inside = absurd (omega arith)
+each_all P (x ∷ xs) h zero d inside = h.0
+each_all P (x ∷ xs) h (suc i) d inside = each_all P xs h.1 i d (omega arith)
+
+pub all_each : {A : Type 0} (P : A → Type 0) (xs : List A) → All P xs → Each P xs
+all_each P [] h = tt
+all_each P (x ∷ xs) h = (h 0 x (omega arith), all_each P xs (λ i d inside. h (suc i) d (omega arith)))
+
+pub each_push : {A : Type 0} (P : A → Type 0) (xs : List A) (x : A) → Each P xs → P x → Each P (xs ++ x ∷ [])
+each_push P [] x h p = (p, tt)
+each_push P (y ∷ ys) x h p = (h.0, each_push P ys x h.1 p)

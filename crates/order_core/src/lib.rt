@@ -28,6 +28,4 @@ pub use order::{NoMemory, Order};
 pub use text::Text;
 pub use tuple::TupleOrder;
 pub use upper::UpperOrder;
-
-#[cfg(test)]
-mod tests;
+pub use word::has;

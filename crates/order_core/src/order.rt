@@ -2,11 +2,27 @@ ghost use Rattle.std.specs.Prelude.{◌≡◌, Bool, IsTrue, IfOk};
 ghost use Rattle.order_core.specs.Order.{IsOrder, IsLeast, AreBounds};
 
 use crate::list::List;
-use std::alloc::Global;
+use std::alloc::{AllocError, AllocFailed, Global};
 
 /// Memory was refused.
 #[derive(Clone, Copy, Debug, PartialEq, Eq)]
 pub struct NoMemory;
+
+impl From<AllocError> for NoMemory {
+    ghost from_gives = { λ _ _. Unit {0} };
+
+    fn from(_error: AllocError) -> NoMemory {
+        NoMemory
+    }
+}
+
+impl<T: Drop> From<AllocFailed<T>> for NoMemory {
+    ghost from_gives = { λ _ _. Unit {0} };
+
+    fn from(_error: AllocFailed<T>) -> NoMemory {
+        NoMemory
+    }
+}
 
 /// A partial order on some items, its values.
 ///

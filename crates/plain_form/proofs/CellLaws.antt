@@ -3,7 +3,7 @@ use Rattle.std.proofs.Common.{◌≡◌, ◌∙◌, refl, sym, ap, subst, ℕ, �
 use Rattle.std.proofs.lemmas.List.Folds.{list_all-append}
 use Rattle.std.proofs.lemmas.List.Splits.{join_with_byte-slice_split}
 use Rattle.std.specs.List.{list_all, slice_split, join_with_byte}
-use Rattle.order_core.specs.MemberLaws.{first, second, both, append_nil}
+use Rattle.order_core.specs.MemberLaws.{first, second, both, append_nil, not_both}
 use Rattle.unit_core.specs.Measure.{one}
 use Rattle.unit_core.specs.Ratio.{Ratio}
 use Rattle.unit_core.specs.UnitTable.{unit_named}
@@ -38,16 +38,12 @@ no_of byte p f (x ∷ xs) h = both _ _ (f x (first _ _ h)) (no_of byte p f xs (s
 abbrev pub is_mark : ℕ → Bool
 is_mark byte = not (is_digit byte) && not (is_letter byte)
 
-clash : (b : Bool) → IsTrue (not b) → b ≡ true → ⊥
-clash true h k = cc
-clash false h k = cc
-
 differs : (p : ℕ → Bool) (byte x : ℕ) → IsTrue (not (p byte)) → IsTrue (p x) → IsTrue (not (x == byte))
 differs p byte x m d = go (x == byte) refl
   where
     go : (b : Bool) → (x == byte) ≡ b → IsTrue (not b)
     go false e = refl
-    go true e = let same : x ≡ byte = eqb-true x byte e in let yes : p byte ≡ true = sym (ap p same) ∙ d in absurd (clash (p byte) m yes)
+    go true e = let same : x ≡ byte = eqb-true x byte e in let yes : p byte ≡ true = sym (ap p same) ∙ d in absurd (not_both (p byte) m yes)
 
 pub digits_no : (byte : ℕ) (digits : List ℕ) → IsTrue (is_mark byte) → IsTrue (list_all is_digit digits) → IsTrue (has_no byte digits)
 digits_no byte digits m h = no_of byte is_digit (λ x d. differs is_digit byte x (first _ _ m) d) digits h

@@ -29,11 +29,3 @@ module _ (xs : List (Bor (List ℕ))) (i : ℕ) (d : Bor (List ℕ)) (before : L
 pub new_end : (xs : List (Bor (List ℕ))) (i : ℕ) (before : List (List ℕ)) → length xs ≤ i
     → are_distinct (texts_of xs) ≡ are_new before (texts_of (drop i xs)) → true ≡ are_distinct (texts_of xs)
 new_end xs i before end decides = sym (decides ∙ rw (drop_all i xs end) refl)
-
-pub not_false : (b : Bool) → not b ≡ false → b ≡ true
-not_false true h = refl
-not_false false h = absurd (cc)
-
-pub not_true : (b : Bool) → not b ≡ true → b ≡ false
-not_true true h = absurd (cc)
-not_true false h = refl

@@ -19,6 +19,3 @@ pub use name::{is_name_text, is_recognised_name};
 pub use port::text_of;
 pub use read::{read_catalogue, read_query};
 pub use rounding::Rounding;
-
-#[cfg(test)]
-mod tests;

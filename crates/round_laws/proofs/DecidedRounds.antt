@@ -36,7 +36,7 @@ use Rattle.design_model.specs.Wiring.{Wiring, wiring_of, Carried, required_rows,
 use Rattle.model_laws.specs.StepLaws.{own_fits}
 use Rattle.round_laws.specs.Decided.{Decided}
 use Rattle.round_laws.proofs.Deciding.{decided_test, decided_as, decided_both, decided_under, decided_option, decided_each, decided_pointwise, decided_place}
-use Rattle.round_laws.proofs.DesignInduction.{for_each_design}
+use Rattle.design_model.specs.DesignInductionLaws.{for_each_design}
 use Rattle.round_laws.proofs.FiniteKinds.{finite_rows}
 use Rattle.round_laws.proofs.FiniteValues.{IsFinite, finite_tuples, decided_some}
 

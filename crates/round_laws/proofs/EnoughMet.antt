@@ -3,7 +3,7 @@ use Rattle.std.specs.Prelude.{◌≡◌, ◌+◌, ◌-◌, ◌≤◌, ◌↔◌,
 use Rattle.std.proofs.Common.{refl, sym, ap, subst, ◌∙◌, arith, inl, inr}
 use Rattle.std.proofs.lemmas.Bool.Decides.{nat_tests}
 use Rattle.order_core.specs.Members.{IsMember}
-use Rattle.order_core.specs.MemberLaws.{map-mem}
+use Rattle.order_core.specs.MemberLaws.{map-mem, got_member}
 use Rattle.order_core.specs.Pointwise.{Each}
 use Rattle.order_core.specs.PointwiseLaws.{each_got}
 use Rattle.value_type.specs.declared.port.Port.{Port}
@@ -35,13 +35,13 @@ use Rattle.design_model.specs.Wiring.{Wiring, Carried}
 use Rattle.model_laws.specs.FeasibleRoundsLaws.{feasible_in_rounds}
 use Rattle.round_laws.specs.AllMet.{AllMetAreSteady}
 use Rattle.round_laws.proofs.DecidedRounds.{decided_in}
-use Rattle.round_laws.proofs.DesignInduction.{for_each_design}
+use Rattle.design_model.specs.DesignInductionLaws.{for_each_design}
 use Rattle.round_laws.proofs.EnoughRounds.{steady_in_enough}
 use Rattle.round_laws.proofs.FiniteKinds.{finite_rows}
 use Rattle.round_laws.proofs.FiniteValues.{minimal_under}
 use Rattle.round_laws.proofs.ShownFeasible.{shown_is_feasible, shown_is_minimum}
 use Rattle.round_laws.proofs.SteadyShown.{steady_is_shown}
-use Rattle.round_laws.proofs.WithItem.{get-member, pointwise_pair}
+use Rattle.round_laws.proofs.WithItem.{pointwise_pair}
 
 pub minimum_below : (t : Types) (n : ℕ) (d : Design) (f r : Row) → IsFeasibleIn t n d f r → (low : Row) × IsMinimumIn t n d f low × IsTrue (resources_leq t d low r)
 minimum_below t n d f =
@@ -156,7 +156,7 @@ module _ (t : Types) (n : ℕ) (net : NetOf) (g : Row) where
               → greatest 1 (enough_of_each t branches) ≡ Some e → IsSomeAnd o (λ b. IsMet t n path b.design f (design_of net) g) → IsWithin t net g e
           in_branch None there same each_typed own_fit whole met_there = absurd met_there
           in_branch (Some b) there same each_typed own_fit whole met_there =
-              let m = get-member branches i b there in
+              let m = got_member branches i b there in
               let ports = each_got (HasPorts provides requires_) branches b same m in
               let found = at_most_greatest 1 (enough_of_each t branches) e whole (of_part t b).enough (enough-mem t branches b m) in
               more_rounds t net g e found.0 found.2
@@ -172,7 +172,7 @@ module _ (t : Types) (n : ℕ) (net : NetOf) (g : Row) where
               → greatest 1 (enough_within t provides requires_ parts constraints) ≡ Some e → IsSomeAnd o (λ p. IsMet t n path p.design row (design_of net) g) → IsWithin t net g e
           in_part row asks None there each_typed whole met_there = absurd met_there
           in_part row asks (Some p) there each_typed whole met_there =
-              let m = get-member parts i p there in
+              let m = got_member parts i p there in
               let found = at_most_greatest 1 (enough_within t provides requires_ parts constraints) e whole (of_part t p).enough (inr (enough-mem t parts p m)) in
               more_rounds t net g e found.0 found.2
               (further p.design row found.0 (each_got (λ (z : Part). IsTyped t z.design) parts p each_typed m) (asked_fits (slice_get asks.asks.0 i) refl asks.asks.2) found.1 met_there)

@@ -32,7 +32,7 @@ use Rattle.design_model.specs.Heights.{height, count_numbers, different, is_same
 use Rattle.design_model.specs.NumberLaws.{number_back}
 use Rattle.design_model.specs.Rows.{Row}
 use Rattle.design_model.specs.ValueOf.{number_at}
-use Rattle.model_laws.specs.KindFoldLaws.{height-Num, height-Fin, height-Prod, height-Up}
+use Rattle.design_model.specs.KindFoldLaws.{height-Num, height-Fin, height-Prod, height-Up}
 use Rattle.round_laws.proofs.Grading.{Grading, by_points, by_points_but_one, graded_images, graded_empty, graded_tuples}
 use Rattle.round_laws.proofs.KindInduction.{for_each_kind}
 use Rattle.round_laws.proofs.NumbersBelow.{numbers_below, below_is_member, member_is_below, length-numbers_below}

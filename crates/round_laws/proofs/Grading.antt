@@ -6,6 +6,7 @@ use Rattle.order_core.specs.Members.{IsMember}
 use Rattle.order_core.specs.MemberLaws.{first, second, both}
 use Rattle.order_core.specs.Tuple.{are_values, tuple_leq}
 use Rattle.round_laws.proofs.Counting.{passing, passing_at_most, passing_rises, passing_same, some_pass}
+use Rattle.order_core.specs.EmbeddingLaws.{came_from, leq_origin, leq_image}
 
 -- A rank of the values, at most the height. It rises with the values. And of two values of one rank, one above the other, each value that occurs and is at most the greater one is at most the lesser one.
 pub record Grading {A : Type 0} (is_value : A → Bool) (leq : A → A → Bool) (Occurs : A → Type 0) (height : ℕ) : Type 0 where
@@ -61,28 +62,22 @@ graded_images {A = A} {B = B} is_value leq Occurs is_image image_leq ImageOccurs
   rises = λ z w z_is w_is l.
       let a = origin z z_is in
       let b = origin w w_is in
-      let rise = grading.rises a.0 b.0 a.1 b.1 (leq_origin z w a.0 b.0 a.2 b.2 l) in
+      let rise = grading.rises a.0 b.0 a.1 b.1 (leq_origin is_value leq is_image image_leq f embeds z w a.0 b.0 a.2 b.2 l) in
       rw (rank_is z a.0 a.2, rank_is w b.0 b.2) rise;
   keeps = λ z w v z_is w_is v_is l e v_occurs below.
       let a = origin z z_is in
       let b = origin w w_is in
       let c = origin v v_is in
       let ranks : grading.rank a.0 ≡ grading.rank b.0 = sym (rank_is z a.0 a.2) ∙ (e ∙ rank_is w b.0 b.2) in
-      let kept = grading.keeps a.0 b.0 c.0 a.1 b.1 c.1 (leq_origin z w a.0 b.0 a.2 b.2 l) ranks (occurs c.0 c.1 (subst ImageOccurs c.2 v_occurs)) (leq_origin v w c.0 b.0 c.2 b.2 below) in
-      leq_image v z c.0 a.0 c.2 a.2 kept;
+      let kept = grading.keeps a.0 b.0 c.0 a.1 b.1 c.1 (leq_origin is_value leq is_image image_leq f embeds z w a.0 b.0 a.2 b.2 l) ranks (occurs c.0 c.1 (subst ImageOccurs c.2 v_occurs)) (leq_origin is_value leq is_image image_leq f embeds v w c.0 b.0 c.2 b.2 below) in
+      leq_image is_value leq is_image image_leq f embeds v z c.0 a.0 c.2 a.2 kept;
 }
   where
     origin : (z : B) → IsTrue (is_image z) → (x : A) × IsTrue (is_value x) × (z ≡ f x)
-    origin z h = let from = embeds.onto z h in (from.0, sym (embeds.value from.0) ∙ (ap is_image (sym from.1) ∙ h), from.1)
+    origin = came_from is_value leq is_image image_leq f embeds
 
     rank_is : (z : B) (x : A) → z ≡ f x → rank z ≡ grading.rank x
     rank_is z x e = ap rank e ∙ same x
-
-    leq_origin : (z w : B) (x y : A) → z ≡ f x → w ≡ f y → IsTrue (image_leq z w) → IsTrue (leq x y)
-    leq_origin z w x y e g h = sym (embeds.order x y) ∙ subst (λ (v : B). IsTrue (image_leq (f x) v)) g (subst (λ (v : B). IsTrue (image_leq v w)) e h)
-
-    leq_image : (z w : B) (x y : A) → z ≡ f x → w ≡ f y → IsTrue (leq x y) → IsTrue (image_leq z w)
-    leq_image z w x y e g h = subst (λ (v : B). IsTrue (image_leq v w)) (sym e) (subst (λ (v : B). IsTrue (image_leq (f x) v)) (sym g) (embeds.order x y ∙ h))
 
 pub graded_empty : {A : Type 0} (Occurs : List A → Type 0) → Grading {A = List A} (are_values []) (tuple_leq []) Occurs 0
 graded_empty {A = A} Occurs = record { rank = λ xs. 0; within = λ xs xs_is. omega arith; rises = λ xs ys xs_is ys_is l. omega arith; keeps = keeps }

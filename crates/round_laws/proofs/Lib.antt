@@ -1,7 +1,6 @@
 mod Counting
 mod DecidedRounds
 mod Deciding
-mod DesignInduction
 mod EnoughMet
 mod EnoughRounds
 mod FiniteKinds

@@ -3,7 +3,7 @@ use Rattle.std.specs.Prelude.{◌≡◌, ℕ, IsTrue, IsSomeAnd, List, [], ◌�
 use Rattle.std.specs.List.{list_all}
 use Rattle.std.proofs.Common.{refl, sym, ap, subst, ◌∙◌, inl, inr}
 use Rattle.order_core.specs.Members.{IsMember}
-use Rattle.order_core.specs.MemberLaws.{second, map-mem, mem-left, mem-right, all_elim}
+use Rattle.order_core.specs.MemberLaws.{second, map-mem, mem-left, mem-right, all_elim, got_member}
 use Rattle.order_core.specs.Pointwise.{Each}
 use Rattle.order_core.specs.PointwiseLaws.{each_got}
 use Rattle.value_type.specs.declared.port.Port.{Port}
@@ -27,8 +27,8 @@ use Rattle.design_model.specs.RoundsLaws.{IsFeasibleIn-Cat, IsFeasibleIn-Choice,
 use Rattle.design_model.specs.Rows.{Row}
 use Rattle.design_model.specs.Typed.{IsTyped, HasPorts, row_is_typed}
 use Rattle.design_model.specs.TypedLaws.{IsTyped-Cat, IsTyped-Choice}
-use Rattle.round_laws.proofs.DesignInduction.{for_each_design}
-use Rattle.round_laws.proofs.WithItem.{get-member, some_of}
+use Rattle.design_model.specs.DesignInductionLaws.{for_each_design}
+use Rattle.round_laws.proofs.WithItem.{some_of}
 
 -- One of the rows requires at most r, and the design is feasible at what it requires.
 pub record RowServes (t : Types) (n : ℕ) (d : Design) (f r : Row) (rows : List CatRow) : Type 0 where
@@ -70,7 +70,7 @@ module _ (t : Types) (n : ℕ) where
           → RowServes t n (Cat provides requires_ rows) f r all
       by_row i None e same fit typed_rows there = absurd there
       by_row i (Some row) e same fit typed_rows there =
-          let m = get-member rows i row e in
+          let m = got_member rows i row e in
           let row_fit = second (row_fits t (port_kinds provides) row.provided) _ (all_elim (row_is_typed t provides requires_) rows row typed_rows m) in
           record {
             row = row;
@@ -92,7 +92,7 @@ module _ (t : Types) (n : ℕ) where
           → Each (HasPorts provides requires_) branches → Each (λ p. IsTyped t p.design) branches → IsSomeAnd o (λ b. IsFeasibleIn t n b.design f r) → RowServes t n (Choice provides requires_ branches) f r all
       by_branch i None e all_is fit same each_typed there = absurd there
       by_branch i (Some b) e all_is fit same each_typed there =
-          let m = get-member branches i b e in
+          let m = got_member branches i b e in
           let found = joined_has (map (λ (s : Survey). s.rows) (map (of_part t) branches)) all all_is (of_part t b).rows
           (map-mem (λ (s : Survey). s.rows) (map (of_part t) branches) (of_part t b) (map-mem (of_part t) branches b m)) in
           let serves = each_got (λ (p : Part). Claim p.design) branches b each m f r found.0 (each_got (λ (p : Part). IsTyped t p.design) branches b each_typed m) found.1 there in

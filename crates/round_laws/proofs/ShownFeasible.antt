@@ -28,9 +28,10 @@ use Rattle.design_model.specs.TypedLaws.{IsTyped-Choice, IsTyped-Net}
 use Rattle.design_model.specs.Wiring.{Carried}
 use Rattle.model_laws.specs.FeasibleRoundsLaws.{feasible_in_rounds}
 use Rattle.model_laws.specs.SettledLaws.{settled_is_feasible}
-use Rattle.round_laws.proofs.DesignInduction.{for_each_design}
+use Rattle.design_model.specs.DesignInductionLaws.{for_each_design}
 use Rattle.round_laws.proofs.TightSteps.{tight_step}
-use Rattle.round_laws.proofs.WithItem.{get-member, pointwise_places, some_of, of_some}
+use Rattle.round_laws.proofs.WithItem.{pointwise_places, some_of, of_some}
+use Rattle.order_core.specs.MemberLaws.{got_member}
 
 module _ (t : Types) (n : ℕ) where
   abbrev Claim : Design → Type 0
@@ -53,7 +54,7 @@ module _ (t : Types) (n : ℕ) where
           → IsSomeAnd o (λ b. IsMinimumIn t n b.design f r × Shows t n b.design f r) → (w : Witness) × IsSomeAnd o (λ b. Holds t b.design f r w)
       in_branch i None e each_typed there = absurd there
       in_branch i (Some b) e each_typed there =
-          let m = get-member branches i b e in
+          let m = got_member branches i b e in
           each_got (λ (p : Part). Claim p.design) branches b each m f r (each_got (λ (p : Part). IsTyped t p.design) branches b each_typed m) (record { minimum = there.0; shows = there.1 })
 
   -- A net's showing state steps to itself, and so by rows that make the step tight. What these ask of the parts is shown, and so feasible.
@@ -65,7 +66,7 @@ module _ (t : Types) (n : ℕ) where
       let tight = tight_step t n net f typed in_rounds.0.provided by.0 by.0 by.1.steps in
       let each_feasible = pointwise_places _ (λ p c. IsFeasible t p.design c.provided c.required) parts tight.0 tight.1.steps.may_carry
       (λ i p c p_at c_at.
-      let m = get-member parts i p p_at in
+      let m = got_member parts i p p_at in
       let minimum = (tight.1.tight i p c p_at c_at).answer in
       let asks : Asks t n net f by.0 i c.provided = (tight.0, tight.1, some_of (λ (d : Carried). d.provided ≡ c.provided) (slice_get tight.0 i) c c_at refl) in
       let shows = of_some (λ (q : Part). Shows t n q.design c.provided c.required) (slice_get parts i) p p_at

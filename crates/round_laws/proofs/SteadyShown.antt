@@ -30,9 +30,10 @@ use Rattle.design_model.specs.TypedLaws.{IsTyped-Choice, IsTyped-Net}
 use Rattle.model_laws.specs.SteadyLaws.{steps_from_all}
 use Rattle.model_laws.specs.StepLaws.{own_fits, own_leq}
 use Rattle.round_laws.specs.AllMet.{AllMetAreSteady}
-use Rattle.round_laws.proofs.DesignInduction.{for_each_design}
+use Rattle.design_model.specs.DesignInductionLaws.{for_each_design}
 use Rattle.round_laws.proofs.LeastEnds.{end_is_state, least_end}
-use Rattle.round_laws.proofs.WithItem.{get-member, some_of}
+use Rattle.round_laws.proofs.WithItem.{some_of}
+use Rattle.order_core.specs.MemberLaws.{got_member}
 
 -- Of a least end of n steps, where n is one or more and the net is steady:
 module _ (t : Types) (k : ℕ) (net : NetOf) (f s : Row) (low : EndsLeastIn t (suc k) net f (suc k) s) where
@@ -66,7 +67,7 @@ module _ (t : Types) (k : ℕ) where
           → IsSomeAnd o (λ b. IsFeasibleIn t (suc k) b.design f r) → IsSomeAnd o (λ b. IsMinimumIn t (suc k) b.design f r × Shows t (suc k) b.design f r)
       in_branch i None e fit same each_typed there = absurd there
       in_branch i (Some b) e fit same each_typed there =
-          let m = get-member branches i b e in
+          let m = got_member branches i b e in
           let of_branch : IsMinimumIn t (suc k) b.design f r = record { element = there; least = least (each_got (HasPorts provides requires_) branches b same m) } in
           (of_branch, each_got (λ (p : Part). Claim p.design) branches b each m f r (each_got (λ (p : Part). IsTyped t p.design) branches b each_typed m) steady_branch of_branch)
         where
@@ -117,7 +118,7 @@ module _ (t : Types) (k : ℕ) where
           → IsSomeAnd o (λ p. IsMinimumIn t (suc k) p.design row answer) → IsSomeAnd o (λ p. Shows t (suc k) p.design row answer)
       in_part i row answer asks each_typed None e there = absurd there
       in_part i row answer asks each_typed (Some p) e there =
-          let m = get-member parts i p e in
+          let m = got_member parts i p e in
           each_got (λ (q : Part). Claim q.design) parts p each m row answer (each_got (λ (q : Part). IsTyped t q.design) parts p each_typed m) steady_part there
         where
           -- A part that is asked for a row is met there.

@@ -1,8 +1,8 @@
 -- Of the rows that make a step, least ones make it tight.
-use Rattle.std.specs.Prelude.{◌≡◌, ℕ, zero, suc, Bool, true, false, cond, ◌==◌, IsTrue, IsSomeAnd, List, [], ◌∷◌, map, Option, Some, slice_get, option_and_then}
+use Rattle.std.specs.Prelude.{◌≡◌, ℕ, zero, suc, Bool, true, false, cond, ◌==◌, IsTrue, IsSomeAnd, List, [], ◌∷◌, map, Option, Some, slice_get, option_and_then, option_map}
 use Rattle.std.proofs.Common.{refl, sym, ap, subst, ◌∙◌}
 use Rattle.order_core.specs.Members.{IsMember}
-use Rattle.order_core.specs.MemberLaws.{first, second, both}
+use Rattle.order_core.specs.MemberLaws.{first, second, both, got_member}
 use Rattle.order_core.specs.Minimal.{IsMinimal}
 use Rattle.order_core.specs.Order.{IsOrder}
 use Rattle.order_core.specs.Pointwise.{Each}
@@ -40,7 +40,8 @@ use Rattle.model_laws.specs.StepLaws.{cut_fits, own_fits}
 use Rattle.round_laws.proofs.DecidedRounds.{fits_part, fit_parts, finite_parts, feasible_parts_fit, decided_net_step_by}
 use Rattle.round_laws.proofs.FiniteValues.{minimal_under}
 use Rattle.round_laws.proofs.LesserRequired.{carried_leq, required_leq, still_satisfied, still_covered}
-use Rattle.round_laws.proofs.WithItem.{with_item, get-with_item-other, with_item-same, same-with_item, map-with_item, get-map, get-member, pointwise-with_item, pointwise_pair, leq-with_item}
+use Rattle.round_laws.proofs.WithItem.{with_item, get-with_item-other, with_item-same, same-with_item, map-with_item, pointwise-with_item, pointwise_pair, leq-with_item}
+use Rattle.std.proofs.lemmas.Option.{slice_get-map}
 
 -- What one part may carry is ordered by its provided and its required row.
 module _ (t : Types) (p : Part) where
@@ -112,7 +113,7 @@ module _ (t : Types) (n : ℕ) (net : NetOf) (f : Row) (typed : IsTyped t (desig
     is = rw IsTyped-Net at typed
 
     part_is : IsTyped t p.design
-    part_is = each_got (λ (q : Part). IsTyped t q.design) net.parts p is.typed (get-member net.parts i p p_at)
+    part_is = each_got (λ (q : Part). IsTyped t q.design) net.parts p is.typed (got_member net.parts i p p_at)
 
     feasible : IsFeasibleIn t n p.design c.provided c.required
     feasible = pointwise_pair (λ (q : Part) (d : Carried). IsFeasibleIn t n q.design d.provided d.required) net.parts carried i p c by.may_carry p_at c_at
@@ -138,7 +139,7 @@ module _ (t : Types) (n : ℕ) (net : NetOf) (f : Row) (typed : IsTyped t (desig
 
       same_required : required_rows (with_item i lesser carried) ≡ required_rows carried
       same_required =
-          map-with_item (λ (e : Carried). e.required) i lesser carried ∙ with_item-same i c.required (required_rows carried) (get-map (λ (e : Carried). e.required) carried i c c_at)
+          map-with_item (λ (e : Carried). e.required) i lesser carried ∙ with_item-same i c.required (required_rows carried) (slice_get-map (λ (e : Carried). e.required) carried i ∙ ap (option_map (λ (e : Carried). e.required)) c_at)
 
       elsewhere : (g : Greater) → is_into i g ≡ false → greater_value (own_values (wiring net) y) (with_item i lesser carried) g ≡ greater_value (own_values (wiring net) y) carried g
       elsewhere (greater.Own j) e = refl
@@ -185,7 +186,7 @@ module _ (t : Types) (n : ℕ) (net : NetOf) (f : Row) (typed : IsTyped t (desig
             let old_fit = feasible_carried_fits t n net.provides net.requires_ net.parts net.constraints carried by.may_carry in
             let new_fit = feasible_carried_fits t n net.provides net.requires_ net.parts net.constraints (with_item i d carried) may in
             let same : provided_rows (with_item i d carried) ≡ provided_rows carried =
-            map-with_item (λ (e : Carried). e.provided) i d carried ∙ with_item-same i c.provided (provided_rows carried) (get-map (λ (e : Carried). e.provided) carried i c c_at) in
+            map-with_item (λ (e : Carried). e.provided) i d carried ∙ with_item-same i c.provided (provided_rows carried) (slice_get-map (λ (e : Carried). e.provided) carried i ∙ ap (option_map (λ (e : Carried). e.provided)) c_at) in
             ap (λ (e : Carried). e.required) (no_lesser d below (record {
               before_is = by.before_is;
               after_is = by.after_is;

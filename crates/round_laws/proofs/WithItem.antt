@@ -39,16 +39,6 @@ map-with_item f i x [] = refl
 map-with_item f zero x (y ∷ ys) = refl
 map-with_item f (suc i) x (y ∷ ys) = ap (λ zs. f y ∷ zs) (map-with_item f i x ys)
 
-pub get-map : {A B : Type 0} (f : A → B) (xs : List A) (i : ℕ) (x : A) → slice_get xs i ≡ Some x → slice_get (map f xs) i ≡ Some (f x)
-get-map f [] i x e = absurd (cc)
-get-map f (y ∷ ys) zero x e = let is : y ≡ x = cc in ap (λ z. Some (f z)) is
-get-map f (y ∷ ys) (suc i) x e = get-map f ys i x e
-
-pub get-member : {A : Type 0} (xs : List A) (i : ℕ) (x : A) → slice_get xs i ≡ Some x → IsMember x xs
-get-member [] i x e = absurd (cc)
-get-member (y ∷ ys) zero x e = let is : y ≡ x = cc in inl (sym is)
-get-member (y ∷ ys) (suc i) x e = inr (get-member ys i x e)
-
 pub some_of : {A : Type 0} (P : A → Type 0) (o : Option A) (x : A) → o ≡ Some x → P x → IsSomeAnd o P
 some_of P o x e p = subst (λ z. IsSomeAnd z P) (sym e) p
 

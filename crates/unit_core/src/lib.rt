@@ -14,6 +14,3 @@ pub use divisor::greatest_common_divisor;
 pub use fault::{FractionFault, UnitFault};
 pub use fraction::{Fraction, MAX_PART};
 pub use unit::Unit;
-
-#[cfg(test)]
-mod tests;

@@ -27,6 +27,3 @@ pub use print::{print_order, print_order_rows};
 pub use row::Row;
 pub use scaling::scale;
 pub use value::Value;
-
-#[cfg(test)]
-mod tests;

@@ -1,4 +1,5 @@
-ghost use Rattle.std.specs.Prelude.{◌≡◌, ◌↔◌, Contains, IfOk, IsTrue, OnOk, find, map};
+ghost use Rattle.std.specs.Prelude.{◌≡◌, ◌↔◌, IfOk, IsTrue, OnOk, find, map};
+ghost use Rattle.order_core.specs.Members.{IsMember};
 ghost use Rattle.std.specs.Option.{option_copied};
 ghost use Rattle.std.specs.Str.{bytes_eq};
 ghost use Rattle.design_world.specs.Fault.{
@@ -72,7 +73,7 @@ impl Folder for MemoryFolder {
         ensures names { IfOk result (λ names. GivesNames (files_of self.old.files) names) }
 
         ensures files { self.new.files ≡ self.old.files }
-        ensures failing { (result ≡ Err WorldFault.Failed) ↔ Contains self.old.failing self.old.calls }
+        ensures failing { (result ≡ Err WorldFault.Failed) ↔ IsMember self.old.calls self.old.failing }
         ensures failed { FailedOnly result (self.new ≡
             record self.old { calls = one_more self.old.calls; failed = one_more self.old.failed }) }
         ensures answered { OnOk result (self.new ≡
@@ -107,7 +108,7 @@ impl Folder for MemoryFolder {
             GivesContent (files_of self.old.files) name.now limit content) }
 
         ensures files { self.new.files ≡ self.old.files }
-        ensures failing { (result ≡ Err WorldFault.Failed) ↔ Contains self.old.failing self.old.calls }
+        ensures failing { (result ≡ Err WorldFault.Failed) ↔ IsMember self.old.calls self.old.failing }
         ensures failed { FailedOnly result (self.new ≡
             record self.old { calls = one_more self.old.calls; failed = one_more self.old.failed }) }
         ensures answered { OnOk result (self.new ≡

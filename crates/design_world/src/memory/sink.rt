@@ -1,4 +1,5 @@
-ghost use Rattle.std.specs.Prelude.{◌≡◌, ◌≤◌, ◌++◌, ◌↔◌, Contains, IfOk, IsTrue, OnOk, OnErr, length, min, take};
+ghost use Rattle.std.specs.Prelude.{◌≡◌, ◌≤◌, ◌++◌, ◌↔◌, IfOk, IsTrue, OnOk, OnErr, length, min, take};
+ghost use Rattle.order_core.specs.Members.{IsMember};
 ghost use Rattle.design_world.specs.Bytes.{Appends};
 ghost use Rattle.design_world.specs.Fault.{
   FailedOnly,
@@ -54,7 +55,7 @@ impl Sink for MemorySink {
         ensures reliable { IsTrue (none_fail self.old.failing) →
             RunsReliably (none_fail self.new.failing) self.old.failed self.new.failed result }
 
-        ensures failing { (result ≡ Err WorldFault.Failed) ↔ Contains self.old.failing self.old.calls }
+        ensures failing { (result ≡ Err WorldFault.Failed) ↔ IsMember self.old.calls self.old.failing }
         ensures failed { FailedOnly result (self.new ≡
             record self.old { calls = one_more self.old.calls; failed = one_more self.old.failed }) }
         ensures answered { IfOk result (λ count. self.new ≡ record self.old {

@@ -6,7 +6,7 @@ use Rattle.design_model.specs.Feasible.{AreMinima}
 use Rattle.design_model.specs.Parts.{provided_ports, required_ports, rows_of}
 use Rattle.catalogue_solve.specs.Enough.{required_by, AreSortedMinima}
 use Rattle.catalogue_solve.proofs.MinimaLaws.{are_minima, found_fits}
-use Rattle.catalogue_solve.proofs.MinimaOf.{if_ok}
+use Rattle.order_core.specs.ResultLaws.{if_ok}
 use Rattle.catalogue_solve.proofs.minimal.minimal_rows.Goals as goal
 
 pub sorted_minima-requires : goal.sorted_minima-requires

@@ -3,8 +3,9 @@ use Rattle.value_type.specs.Fits.{row_fits}
 use Rattle.value_type.specs.Leq.{row_leq}
 use Rattle.value_type.specs.PortKinds.{port_kinds}
 use Rattle.catalogue_solve.specs.Enough.{AreSortedMinima}
-use Rattle.catalogue_solve.proofs.MinimaOf.{if_ok, permuted_minima}
+use Rattle.catalogue_solve.proofs.MinimaOf.{permuted_minima}
 use Rattle.catalogue_solve.proofs.minimal.sorted_minima.Goals as goal
+use Rattle.order_core.specs.ResultLaws.{if_ok}
 
 pub minima_of-requires-clause-fit : goal.minima_of-requires-clause-fit
 minima_of-requires-clause-fit c =

@@ -1,7 +1,7 @@
 use Rattle.std.proofs.Common.{◌≡◌, ◌-◌, ◌<◌, ◌++◌, [], ◌∷◌, false, true, IsTrue, length, replicate, refl, ◌∙◌, append_assoc, arith, rules}
 use Rattle.std.proofs.lemmas.List.{length-set, length-replicate}
 use Rattle.cut_plan.proofs.TurnLemmas.{all_left, next_is_left, left_within, one_fewer, without_left, turns_step}
-use Rattle.cut_plan.specs.TurnLaws.{many_numbers}
+use Rattle.design_model.specs.EvaluationLaws.{many_numbers}
 use Rattle.cut_plan.specs.Turns.{table_reads, left_from, is_left}
 use Rattle.design_model.specs.Evaluation.{next}
 use Rattle.cut_plan.proofs.order.order_of.Goals as goal

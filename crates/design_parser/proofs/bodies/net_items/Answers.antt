@@ -1,7 +1,7 @@
 use Rattle.std.proofs.lemmas.Result.{err_from_is_err_and}
-use Rattle.grammar_core.specs.Classes.{one_of}
-use Rattle.grammar_core.specs.LoopLaws.{goes_on, ends, is_done, smaller}
-use Rattle.grammar_core.specs.Parts.{none}
+use Rattle.design_lexer.specs.Syntax.Classes.{one_of}
+use Rattle.design_lexer.specs.Syntax.LoopLaws.{goes_on, ends, is_done, smaller}
+use Rattle.design_lexer.specs.Syntax.Parts.{none}
 use Rattle.design_parser.specs.Grammar.{NetItemOf}
 use Rattle.design_parser.specs.Lists.{lists_of}
 use Rattle.design_parser.specs.Readers.{item_starts, net_item_at, net_items_at}

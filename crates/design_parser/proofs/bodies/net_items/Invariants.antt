@@ -1,6 +1,6 @@
 use Rattle.std.proofs.Common.{◌≡◌, length}
-use Rattle.grammar_core.specs.Classes.{one_of}
-use Rattle.grammar_core.specs.Reading.{many_at}
+use Rattle.design_lexer.specs.Syntax.Classes.{one_of}
+use Rattle.design_lexer.specs.Syntax.Reading.{many_at}
 use Rattle.design_parser.specs.Readers.{item_starts, net_item_at, net_items_at}
 use Rattle.design_parser.specs.Trees.{with_item}
 use Rattle.design_parser.specs.Lists.{lists_of}

@@ -1,9 +1,9 @@
 use Rattle.std.proofs.lemmas.Result.{err_from_is_err_and}
-use Rattle.grammar_core.specs.declared.class.Class.TheVariants as class
-use Rattle.grammar_core.specs.Classes.{is}
-use Rattle.grammar_core.specs.LoopLaws.{goes_on, ends, is_done, smaller}
-use Rattle.grammar_core.specs.Parts.{none}
-use Rattle.grammar_core.specs.Words.{at_end}
+use Rattle.design_lexer.specs.declared.syntax.class.Class.TheVariants as class
+use Rattle.design_lexer.specs.Syntax.Classes.{is}
+use Rattle.design_lexer.specs.Syntax.LoopLaws.{goes_on, ends, is_done, smaller}
+use Rattle.design_lexer.specs.Syntax.Parts.{none}
+use Rattle.design_lexer.specs.Syntax.Words.{at_end}
 use Rattle.design_parser.specs.Grammar.{Chain}
 use Rattle.design_parser.specs.Readers.{chain_at, chains_at}
 use Rattle.design_parser.proofs.BodyParts.{chain_item}

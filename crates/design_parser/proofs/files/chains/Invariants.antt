@@ -1,8 +1,8 @@
 use Rattle.std.proofs.Common.{◌≡◌, length}
-use Rattle.grammar_core.specs.declared.class.Class.TheVariants as class
-use Rattle.grammar_core.specs.Classes.{is}
-use Rattle.grammar_core.specs.Reading.{many_at}
-use Rattle.grammar_core.specs.Words.{at_end}
+use Rattle.design_lexer.specs.declared.syntax.class.Class.TheVariants as class
+use Rattle.design_lexer.specs.Syntax.Classes.{is}
+use Rattle.design_lexer.specs.Syntax.Reading.{many_at}
+use Rattle.design_lexer.specs.Syntax.Words.{at_end}
 use Rattle.design_parser.specs.Readers.{chain_at, chains_at}
 use Rattle.design_parser.proofs.files.chains.Given as goal
 

@@ -1,4 +1,4 @@
-use Rattle.grammar_core.specs.FewLaws.{few_statement, statement_few}
+use Rattle.design_lexer.specs.Syntax.FewLaws.{few_statement, statement_few}
 use Rattle.design_parser.proofs.Statements.{rule_statements}
 use Rattle.design_parser.proofs.laws.signs_are_counted_up_to_the_semicolon.Goals as goal
 

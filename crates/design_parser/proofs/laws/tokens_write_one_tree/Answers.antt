@@ -1,6 +1,6 @@
-use Rattle.grammar_core.specs.Classes.{one_of}
-use Rattle.grammar_core.specs.FaultLaws.{written_once}
-use Rattle.grammar_core.specs.Parts.{none}
+use Rattle.design_lexer.specs.Syntax.Classes.{one_of}
+use Rattle.design_lexer.specs.Syntax.FaultLaws.{written_once}
+use Rattle.design_lexer.specs.Syntax.Parts.{none}
 use Rattle.design_parser.specs.Grammar.{Query, Written}
 use Rattle.design_parser.specs.Readers.{file_at, maybe_cells_at}
 use Rattle.design_parser.proofs.BodyParts.{file_part, query_part}

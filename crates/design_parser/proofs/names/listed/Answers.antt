@@ -1,10 +1,10 @@
 use Rattle.std.proofs.lemmas.Result.{err_from_is_err_and}
-use Rattle.grammar_core.specs.Classes.{is}
-use Rattle.grammar_core.specs.LoopLaws.{goes_on_after, ends_after, is_done}
-use Rattle.grammar_core.specs.Parts.{none}
-use Rattle.grammar_core.specs.Reading.{listed_at, sym_at}
-use Rattle.grammar_core.specs.Spelled.{name_at}
-use Rattle.grammar_core.specs.Words.{at_end}
+use Rattle.design_lexer.specs.Syntax.Classes.{is}
+use Rattle.design_lexer.specs.Syntax.LoopLaws.{goes_on_after, ends_after, is_done}
+use Rattle.design_lexer.specs.Syntax.Parts.{none}
+use Rattle.design_lexer.specs.Syntax.Reading.{listed_at, sym_at}
+use Rattle.design_lexer.specs.Syntax.Spelled.{name_at}
+use Rattle.design_lexer.specs.Syntax.Words.{at_end}
 use Rattle.design_parser.specs.Grammar.{Name}
 use Rattle.design_parser.proofs.NameParts.{name_part}
 use Rattle.design_parser.proofs.names.listed.Goals as goal

@@ -1,8 +1,8 @@
 use Rattle.std.proofs.Common.{◌≡◌, length}
-use Rattle.grammar_core.specs.Classes.{is}
-use Rattle.grammar_core.specs.Reading.{many_at, sym_at, listed_at}
-use Rattle.grammar_core.specs.Spelled.{name_at}
-use Rattle.grammar_core.specs.Words.{at_end}
+use Rattle.design_lexer.specs.Syntax.Classes.{is}
+use Rattle.design_lexer.specs.Syntax.Reading.{many_at, sym_at, listed_at}
+use Rattle.design_lexer.specs.Syntax.Spelled.{name_at}
+use Rattle.design_lexer.specs.Syntax.Words.{at_end}
 use Rattle.design_parser.proofs.names.listed.Given as goal
 
 -- what is left, added to the names so far, gives what all gives

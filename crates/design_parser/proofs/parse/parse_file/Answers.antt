@@ -1,10 +1,10 @@
 use Rattle.std.proofs.Common.{◌≡◌, ◌-◌, length, drop, Err, sym, ap, subst, ◌∙◌}
-use Rattle.grammar_core.specs.Classes.{lexemes_of}
-use Rattle.grammar_core.specs.FaultLaws.{fails_within, fails_at}
-use Rattle.grammar_core.specs.Parts.{none}
-use Rattle.grammar_core.specs.Reading.{whole}
-use Rattle.grammar_core.specs.WholeLaws.{whole_written}
-use Rattle.grammar_core.specs.Words.{place_or}
+use Rattle.design_lexer.specs.Syntax.Classes.{lexemes_of}
+use Rattle.design_lexer.specs.Syntax.FaultLaws.{fails_within, fails_at}
+use Rattle.design_lexer.specs.Syntax.Parts.{none}
+use Rattle.design_lexer.specs.Syntax.Reading.{whole}
+use Rattle.design_lexer.specs.Syntax.WholeLaws.{whole_written}
+use Rattle.design_lexer.specs.Syntax.Words.{place_or}
 use Rattle.design_parser.specs.Grammar.{Written}
 use Rattle.design_parser.specs.Readers.{file_at}
 use Rattle.design_parser.proofs.BodyParts.{file_part}

@@ -1,9 +1,9 @@
 use Rattle.std.proofs.Common.{◌≡◌, ◌-◌, length, drop, Err, sym, ap, subst, ◌∙◌}
-use Rattle.grammar_core.specs.Classes.{lexemes_of, one_of}
-use Rattle.grammar_core.specs.FaultLaws.{fails_within, fails_at}
-use Rattle.grammar_core.specs.Reading.{whole}
-use Rattle.grammar_core.specs.WholeLaws.{whole_written}
-use Rattle.grammar_core.specs.Words.{place_or}
+use Rattle.design_lexer.specs.Syntax.Classes.{lexemes_of, one_of}
+use Rattle.design_lexer.specs.Syntax.FaultLaws.{fails_within, fails_at}
+use Rattle.design_lexer.specs.Syntax.Reading.{whole}
+use Rattle.design_lexer.specs.Syntax.WholeLaws.{whole_written}
+use Rattle.design_lexer.specs.Syntax.Words.{place_or}
 use Rattle.design_parser.specs.Grammar.{Query}
 use Rattle.design_parser.specs.Readers.{maybe_cells_at}
 use Rattle.design_parser.proofs.ValueParts.{cells_on}

@@ -1,8 +1,8 @@
 use Rattle.std.proofs.lemmas.Result.{err_from_is_err_and}
-use Rattle.grammar_core.specs.Classes.{one_of}
-use Rattle.grammar_core.specs.LoopLaws.{goes_on, ends, is_done, smaller}
-use Rattle.grammar_core.specs.Parts.{none}
-use Rattle.grammar_core.specs.Words.{at_end}
+use Rattle.design_lexer.specs.Syntax.Classes.{one_of}
+use Rattle.design_lexer.specs.Syntax.LoopLaws.{goes_on, ends, is_done, smaller}
+use Rattle.design_lexer.specs.Syntax.Parts.{none}
+use Rattle.design_lexer.specs.Syntax.Words.{at_end}
 use Rattle.design_parser.specs.Grammar.{Port}
 use Rattle.design_parser.specs.Readers.{port_at, ports_at, sides}
 use Rattle.design_parser.proofs.ValueParts.{port_item}

@@ -1,7 +1,7 @@
 use Rattle.std.proofs.Common.{◌≡◌, length}
-use Rattle.grammar_core.specs.Classes.{one_of}
-use Rattle.grammar_core.specs.Reading.{many_at}
-use Rattle.grammar_core.specs.Words.{at_end}
+use Rattle.design_lexer.specs.Syntax.Classes.{one_of}
+use Rattle.design_lexer.specs.Syntax.Reading.{many_at}
+use Rattle.design_lexer.specs.Syntax.Words.{at_end}
 use Rattle.design_parser.specs.Readers.{sides, port_at, ports_at}
 use Rattle.design_parser.proofs.ports.ports.Given as goal
 

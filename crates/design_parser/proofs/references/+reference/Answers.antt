@@ -1,10 +1,10 @@
 use Rattle.std.proofs.Common.{arith}
 use Rattle.std.proofs.lemmas.Result.{err_from_is_err_and}
-use Rattle.grammar_core.specs.declared.class.Class.TheVariants as class
-use Rattle.grammar_core.specs.Classes.{is, one_of}
-use Rattle.grammar_core.specs.LoopLaws.{goes_on_after, ends_after, is_done, smaller_after}
-use Rattle.grammar_core.specs.Reading.{sym_at, listed_at}
-use Rattle.grammar_core.specs.Words.{at_end}
+use Rattle.design_lexer.specs.declared.syntax.class.Class.TheVariants as class
+use Rattle.design_lexer.specs.Syntax.Classes.{is, one_of}
+use Rattle.design_lexer.specs.Syntax.LoopLaws.{goes_on_after, ends_after, is_done, smaller_after}
+use Rattle.design_lexer.specs.Syntax.Reading.{sym_at, listed_at}
+use Rattle.design_lexer.specs.Syntax.Words.{at_end}
 use Rattle.design_parser.specs.Grammar.{Arg, Ref}
 use Rattle.design_parser.specs.Readers.{arg_at, ref_at}
 use Rattle.design_parser.proofs.BodyParts.{ref_on, arg_part, ref_part}

@@ -1,10 +1,10 @@
 use Rattle.std.proofs.Common.{◌≡◌, ◌-◌, length, Some, Err, sym, ap, ◌∙◌, arith}
 use Rattle.std.proofs.lemmas.List.{length-take}
 use Rattle.std.specs.Result.{result_err}
-use Rattle.grammar_core.specs.declared.fault.ReadFault.TheVariants as fault
-use Rattle.grammar_core.specs.FaultLaws.{left_within}
-use Rattle.grammar_core.specs.GivesLaws.{fault_given}
-use Rattle.grammar_core.specs.Parts.{none}
+use Rattle.design_lexer.specs.declared.syntax.fault.ReadFault.TheVariants as fault
+use Rattle.design_lexer.specs.Syntax.FaultLaws.{left_within}
+use Rattle.design_lexer.specs.Syntax.GivesLaws.{fault_given}
+use Rattle.design_lexer.specs.Syntax.Parts.{none}
 use Rattle.design_parser.specs.Grammar.{RuleOf}
 use Rattle.design_parser.specs.Readers.{whole_rule_at}
 use Rattle.design_parser.proofs.ExprParts.{whole_rule_part}

@@ -1,9 +1,9 @@
 use Rattle.std.proofs.Common.{[], ◌∷◌}
 use Rattle.std.proofs.lemmas.Result.{err_from_is_err_and}
-use Rattle.grammar_core.specs.declared.class.Class.TheVariants as class
-use Rattle.grammar_core.specs.Classes.{one_of}
-use Rattle.grammar_core.specs.LoopLaws.{goes_on, ends, is_done, smaller}
-use Rattle.grammar_core.specs.Words.{at_end}
+use Rattle.design_lexer.specs.declared.syntax.class.Class.TheVariants as class
+use Rattle.design_lexer.specs.Syntax.Classes.{one_of}
+use Rattle.design_lexer.specs.Syntax.LoopLaws.{goes_on, ends, is_done, smaller}
+use Rattle.design_lexer.specs.Syntax.Words.{at_end}
 use Rattle.design_parser.specs.Grammar.{FurtherFactor}
 use Rattle.design_parser.specs.Readers.{further_factor_at, unit_at, joints}
 use Rattle.design_parser.proofs.NameParts.{further_item}

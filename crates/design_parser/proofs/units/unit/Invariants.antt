@@ -1,7 +1,7 @@
 use Rattle.std.proofs.Common.{◌≡◌, length}
-use Rattle.grammar_core.specs.Classes.{one_of}
-use Rattle.grammar_core.specs.Reading.{many_at}
-use Rattle.grammar_core.specs.Words.{at_end}
+use Rattle.design_lexer.specs.Syntax.Classes.{one_of}
+use Rattle.design_lexer.specs.Syntax.Reading.{many_at}
+use Rattle.design_lexer.specs.Syntax.Words.{at_end}
 use Rattle.design_parser.specs.Readers.{joints, further_factor_at, unit_at}
 use Rattle.design_parser.proofs.units.unit.Given as goal
 

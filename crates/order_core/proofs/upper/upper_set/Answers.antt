@@ -2,7 +2,7 @@ use Rattle.std.proofs.Common.{◌∙◌, ◌≡◌, ap, sym, ℕ, get_or}
 use Rattle.std.proofs.lemmas.List.Folds.{list_any_more}
 use Rattle.order_core.specs.Finite.{is_below}
 use Rattle.order_core.specs.Word.{has}
-use Rattle.order_core.proofs.WordLaws.{has_or}
+use Rattle.order_core.specs.WordLaws.{has_or}
 use Rattle.order_core.proofs.upper.upper_set.Goals as goal
 
 pub loop-member-preserved : goal.loop-member-preserved

@@ -1,7 +1,7 @@
 use Rattle.std.proofs.Common.{sym, ◌∙◌, ◌≡◌, ◌<◌, ◌≤◌, ◌^◌, false, arith}
 use Rattle.std.proofs.lemmas.Bool.Decides.{nat_tests}
 use Rattle.std.specs.Prelude.{nat_lt}
-use Rattle.order_core.proofs.WordLaws.{has_beyond}
+use Rattle.order_core.specs.WordLaws.{has_beyond}
 use Rattle.order_core.proofs.word.has.Goals as goal
 
 pub returns-else-number-lt64 : goal.returns-else-number-lt64

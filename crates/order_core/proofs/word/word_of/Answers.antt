@@ -4,7 +4,7 @@ use Rattle.std.specs.Prelude.{nat_eq, nat_lt}
 use Rattle.std.proofs.lemmas.List.Folds.{list_any_more}
 use Rattle.std.proofs.lemmas.Bool.{ltb-true}
 use Rattle.order_core.specs.MemberLaws.{all_at}
-use Rattle.order_core.proofs.WordLaws.{has_or, has_shifted}
+use Rattle.order_core.specs.WordLaws.{has_or, has_shifted}
 use Rattle.order_core.proofs.word.word_of.Goals as goal
 
 pub loop-number-preserved : goal.loop-number-preserved

@@ -1,18 +1,17 @@
-use Rattle.std.proofs.Common.{◌≡◌, ◌∙◌, ◌+◌, ◌≤◌, [], ◌∷◌, ◌++◌, ap, arith, false, length, List, IsTrue, rules, subst, sym, take, true}
+use Rattle.std.proofs.Common.{◌≡◌, ◌∙◌, ◌+◌, ◌≤◌, [], ◌∷◌, ◌++◌, ap, arith, false, length, List, IsTrue, rules, subst, sym, take, true, ◌↔◌}
 use Rattle.std.specs.List.{list_any}
 use Rattle.std.proofs.lemmas.Iterator.Adapters.{YieldsList-from_vec}
 use Rattle.std.proofs.lemmas.Iterator.Consumers.{YieldsList-end, YieldsList-turn}
 use Rattle.std.proofs.lemmas.List.{length-append, map-id, take_all}
 use Rattle.order_core.specs.Members.{IsMember}
-use Rattle.order_core.specs.MemberLaws.{all_elim}
 use Rattle.antichain.specs.Basis.{IsBasis}
-use Rattle.antichain.specs.BasisLaws.{minimal_member, member_of_minimal}
 use Rattle.antichain.specs.Minima.{inserted_all}
-use Rattle.antichain.proofs.MinimaLaws.{minima_are}
+use Rattle.antichain.proofs.MinimaLaws.{minima_are, minima_exact}
 use Rattle.antichain.proofs.MinimaLemmas.{inserted_all-minima}
 use Rattle.antichain.proofs.Ordered.{goes_last, so_far_apart, stays_out}
 use Rattle.antichain.proofs.antichain.Antichain.of_ordered.Goals as goal
 use Rattle.antichain.proofs.antichain.Antichain.of_ordered.Goals.{else-not-some_below-via-then-not-some_below+else-is_err, else-not-some_below-via-else-not-some_below}
+use Rattle.order_core.specs.Minimal.{IsMinimal}
 
 pub some_below-requires-clause-items_are_values : goal.some_below-requires-clause-items_are_values
 some_below-requires-clause-items_are_values g c =
@@ -59,13 +58,8 @@ returns-clause-basis g c =
 
 pub returns-clause-exact : goal.returns-clause-exact
 returns-clause-exact g c =
-    λ x.
-    let is_value = g.O.Order.is_value c.args.order.now in
-    let leq = g.O.Order.leq c.args.order.now in
-    let values : (y : g.row.T.Denot) → IsMember y c.args.items → IsTrue (is_value y) = λ y m. all_elim is_value c.args.items y c.requires.values m in (
-      minimal_member is_value leq (g.met.O.Order.laws c.args.order.now) (λ y. IsMember y c.args.items) c.loop-item.made.items values (returns-clause-basis g c) x,
-      member_of_minimal is_value leq (g.met.O.Order.laws c.args.order.now) (λ y. IsMember y c.args.items) c.loop-item.made.items values (returns-clause-basis g c) x,
-    )
+    λ x. subst (λ (made : List g.row.T.Denot). IsMember x made ↔ IsMinimal (g.O.Order.leq c.args.order.now) (λ y. IsMember y c.args.items) x) (sym (returns-clause-minima g c))
+    (minima_exact (g.O.Order.is_value c.args.order.now) (g.O.Order.leq c.args.order.now) (g.met.O.Order.laws c.args.order.now) c.args.items c.requires.values x)
 
 pub returns-clause-members : goal.returns-clause-members
 returns-clause-members g c =

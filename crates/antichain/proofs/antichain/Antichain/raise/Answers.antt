@@ -3,7 +3,7 @@ use Rattle.order_core.specs.Members.{IsMember}
 use Rattle.antichain.specs.Basis.{IsBasis, IsRaise}
 use Rattle.antichain.specs.Covers.{IsCover}
 use Rattle.antichain.specs.CoverLaws.{cover_basis, cover_values}
-use Rattle.antichain.proofs.Results.{if_ok}
+use Rattle.order_core.specs.ResultLaws.{if_ok}
 use Rattle.antichain.proofs.antichain.Antichain.raise.Goals as goal
 
 pub of-requires-2 : goal.of-requires-2

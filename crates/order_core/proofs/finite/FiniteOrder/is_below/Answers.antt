@@ -1,5 +1,5 @@
 use Rattle.std.proofs.Common.{sym}
-use Rattle.order_core.proofs.WordLaws.{no_word}
+use Rattle.order_core.specs.WordLaws.{no_word}
 use Rattle.order_core.proofs.finite.FiniteOrder.is_below.Goals as goal
 
 pub returns-in-None : goal.returns-in-None

@@ -1,8 +1,0 @@
-use Rattle.std.proofs.Common.{◌≡◌, drop}
-use Rattle.std.specs.List.{list_all}
-use Rattle.design_model.specs.Typed.{row_is_typed}
-use Rattle.catalogue_solve.proofs.tests.all_fit.Given as goal
-
--- What is left decides.
-abbrev pub invariant-loop-row : goal.invariant-loop-row
-invariant-loop-row l = list_all (row_is_typed l.types l.provides l.requires_) l.rows ≡ list_all (row_is_typed l.types l.provides l.requires_) (drop l.row-index l.rows)

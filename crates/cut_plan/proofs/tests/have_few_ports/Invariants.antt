@@ -1,8 +1,0 @@
-use Rattle.std.proofs.Common.{drop}
-use Rattle.order_core.specs.Pointwise.{Each}
-use Rattle.cut_plan.specs.Nets.{HasFewPorts}
-use Rattle.cut_plan.proofs.tests.have_few_ports.Given as goal
-
--- What is left decides.
-abbrev pub invariant-loop-part : goal.invariant-loop-part
-invariant-loop-part l = Each HasFewPorts (drop l.part-index l.parts) → Each HasFewPorts l.parts

@@ -1,8 +1,0 @@
-use Rattle.std.proofs.Common.{◌≡◌, drop}
-use Rattle.grammar_core.specs.Classes.{lexemes_of}
-use Rattle.grammar_core.specs.Reading.{over}
-use Rattle.grammar_core.proofs.limit.over.Given as goal
-
--- what is left is past what is left of the limit where all is past the limit
-abbrev pub invariant-loop-at : goal.invariant-loop-at
-invariant-loop-at l = over l.left (lexemes_of l.text (drop l.at l.tokens)) ≡ over l.limit (lexemes_of l.text l.tokens)

@@ -1,0 +1,4 @@
+pub mod BitSetLemmas
+pub mod Inner
+pub mod RoundLemmas
+pub mod RowLemmas

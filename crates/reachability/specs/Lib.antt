@@ -1,0 +1,7 @@
+-- Read Reaches, BitSets and Reach first. Modules whose names end in Laws hold lemmas.
+pub mod BitSets
+pub mod Reach
+pub mod Reaches
+pub mod ReachesLaws
+pub mod ReachLaws
+pub mod Rounds
