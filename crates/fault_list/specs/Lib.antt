@@ -1,0 +1,4 @@
+-- Read Faults and Answers first. Modules whose names end in Laws hold lemmas.
+pub mod Answers
+pub mod Faults
+pub mod FaultLaws
