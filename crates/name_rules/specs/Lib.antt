@@ -1,0 +1,4 @@
+-- Read Places and Twice first.
+pub mod Places
+pub mod Sizes
+pub mod Twice

@@ -1,0 +1,20 @@
+ghost use Rattle.std.specs.Prelude.{◌≡◌, ◌<◌, ◌^◌, ℕ, List, IfOk, length};
+ghost use Rattle.name_index.specs.Names.{number_of};
+ghost use Rattle.name_rules.specs.Places.{place_of};
+
+use crate::named::Named;
+use name_index::NameIndex;
+use order_core::NoMemory;
+use std::alloc::Global;
+
+/// The names of the items, each with the place of the first item that has it.
+pub fn places_of<T: Named>(alloc: Global, items: &[T]) -> Result<NameIndex, NoMemory>
+    requires few { length items.now < 2 ^ 32 }
+    ensures { IfOk result (λ names. (name : List ℕ) → number_of names name ≡ place_of T.named items.now name) }
+{
+    let mut names = NameIndex::new(alloc);
+    for (at, item) in items.iter().enumerate() {
+        names.add(alloc, item.name().name.as_str(), at as u32)?;
+    }
+    Ok(names)
+}
