@@ -1,4 +1,4 @@
-ghost use Rattle.std.specs.Prelude.{◌≡◌, IsTrue, OnOk};
+ghost use Rattle.std.specs.Prelude.{◌≡◌, ◌↔◌, IsTrue, OnOk};
 ghost use Rattle.fault_list.specs.Faults.{earlier, least};
 ghost use Rattle.name_rules.specs.Sizes.{HasFewPorts, IsSmall};
 ghost use Rattle.name_rules.specs.Twice.{body_repeats, twice_faults};
@@ -15,7 +15,7 @@ const MANY: usize = 1 << 32;
 
 /// Whether the file has fewer than 2^32 ports.
 pub fn is_small(file: &File) -> bool
-    ensures { IsTrue result → IsSmall file.now }
+    ensures { IsTrue result ↔ IsSmall file.now }
 {
     match file {
         File::Design(BodyTree::Net { ports, .. }) => ports.items().len() < MANY,

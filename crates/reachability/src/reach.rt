@@ -1,4 +1,4 @@
-ghost use Rattle.std.specs.Prelude.{◌≡◌, ◌≤◌, IfOk, IsTrue, MatchOption};
+ghost use Rattle.std.specs.Prelude.{◌≡◌, IfOk, IsTrue, MatchOption};
 ghost use Rattle.std.specs.List.{list_all};
 ghost use Rattle.order_core.specs.Walk.{is_pair_below};
 ghost use Rattle.reachability.specs.Reach.{reach, rank, IsReach, IsFirstItself, NoneItself};
@@ -20,7 +20,6 @@ impl Reachability {
     ///
     /// Besides a step for each pair it takes one for each two numbers and each word of a row, however many pairs there are.
     pub fn of(alloc: Global, n: u32, pairs: &[(u32, u32)]) -> Result<Reachability, NoMemory>
-        requires few { n ≤ 65536 }
         requires pairs { IsTrue (list_all (is_pair_below n) pairs.now) }
         ensures { IfOk result (λ made. IsReach n pairs.now made) }
     {

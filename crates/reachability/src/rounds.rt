@@ -1,4 +1,4 @@
-ghost use Rattle.std.specs.Prelude.{◌≡◌, ◌<◌, ◌≤◌, ◌+◌, ◌/◌, ℕ, [], IfOk, IsTrue, cond, length, map, replicate, slice_index_or};
+ghost use Rattle.std.specs.Prelude.{◌≡◌, ◌<◌, ◌+◌, ◌/◌, ℕ, [], IfOk, IsTrue, cond, length, map, replicate, slice_index_or};
 ghost use Rattle.std.specs.List.{list_all};
 ghost use Rattle.order_core.specs.Walk.{is_pair_below};
 ghost use Rattle.reachability.specs.BitSets.{has_in, united};
@@ -10,7 +10,6 @@ use std::alloc::Global;
 
 /// For each number below `n`, the set of those that chains of pairs lead to from it.
 pub fn closed_rows(alloc: Global, n: u32, pairs: &[(u32, u32)]) -> Result<Vec<BitSet>, NoMemory>
-    requires few { n ≤ 65536 }
     requires pairs { IsTrue (list_all (is_pair_below n) pairs.now) }
     ensures { IfOk result (λ rows. AreClosed pairs.now rows.items) }
 {
@@ -24,7 +23,6 @@ pub fn closed_rows(alloc: Global, n: u32, pairs: &[(u32, u32)]) -> Result<Vec<Bi
 
 /// For each number below `n`, the set of those that one pair leads to from it.
 fn direct_rows(alloc: Global, n: u32, pairs: &[(u32, u32)]) -> Result<Vec<BitSet>, NoMemory>
-    requires few { n ≤ 65536 }
     requires pairs { IsTrue (list_all (is_pair_below n) pairs.now) }
     ensures { IfOk result (λ rows. AreDirect n pairs.now rows.items) }
 {
@@ -37,7 +35,6 @@ fn direct_rows(alloc: Global, n: u32, pairs: &[(u32, u32)]) -> Result<Vec<BitSet
 
 /// As many sets without a number as `n`, with room for the numbers below `n`.
 fn empty_rows(alloc: Global, n: u32) -> Result<Vec<BitSet>, NoMemory>
-    requires { n ≤ 65536 }
     ensures { IfOk result (λ rows. rows.items ≡ replicate n (replicate (n / 64 + 1) 0)) }
 {
     let width = (n / 64 + 1) as usize;
