@@ -1,5 +1,5 @@
 -- The order of a table, found by trying all its elements.
-use Rattle.std.specs.Prelude.{ℕ, zero, suc, Bool, true, ◌&&◌, ◌||◌, not, nat_eq, List, length}
+use Rattle.std.specs.Prelude.{ℕ, zero, suc, Bool, true, ◌&&◌, ◌||◌, not, nat_eq, nat_lt, ◌^◌, List, length, slice_index}
 use Rattle.order_core.specs.Finite.{is_below}
 
 -- Each number below n passes the test.
@@ -15,3 +15,7 @@ is_transitive table = all_below (λ x. all_below (λ y. all_below (λ z. not (is
 
 abbrev pub is_antisymmetric : List ℕ → Bool
 is_antisymmetric table = all_below (λ x. all_below (λ y. not (is_below table x y) || (not (is_below table y x) || nat_eq x y)) (length table)) (length table)
+
+-- No word has a number that is no element.
+abbrev pub is_within : List ℕ → Bool
+is_within table = all_below (λ x. nat_lt (slice_index table x) (2 ^ length table)) (length table)

@@ -1,11 +1,12 @@
 -- The order of a table, found by trying all its elements.
 use Rattle.std.proofs.Common.{subst, arith, ◌⊎◌, inl, inr}
-use Rattle.std.proofs.lemmas.Bool.{cases_lt, ltb-true, eqb-true}
-use Rattle.std.specs.Prelude.{◌≡◌, ◌<◌, ◌≤◌, ℕ, zero, suc, Bool, true, false, ◌||◌, not, nat_eq, IsTrue, List, length}
-use Rattle.model_examples.specs.TableOrder.{all_below, is_antisymmetric, is_reflexive, is_transitive}
+use Rattle.std.proofs.lemmas.Bool.{cases_lt, ltb-true, lt-ltb, eqb-true}
+use Rattle.std.specs.Prelude.{◌≡◌, ◌<◌, ◌≤◌, ℕ, zero, suc, Bool, true, false, ◌||◌, ◌^◌, not, nat_eq, nat_lt, IsTrue, List, length, slice_index}
+use Rattle.model_examples.specs.TableOrder.{all_below, is_antisymmetric, is_reflexive, is_transitive, is_within}
 use Rattle.order_core.specs.Finite.{is_element, is_below}
 use Rattle.order_core.specs.MemberLaws.{first, second}
 use Rattle.order_core.specs.Order.{IsOrder}
+use Rattle.order_core.specs.WordLaws.{has_beyond}
 
 pub passes_below : (test : ℕ → Bool) (n x : ℕ) → IsTrue (all_below test n) → x < n → IsTrue (test x)
 passes_below test zero x h l = absurd (omega arith)
@@ -35,3 +36,13 @@ table_order table reflexive transitive antisymmetric = record {
   where
     n : ℕ
     n = length table
+
+pub table_within : (table : List ℕ) → IsTrue (is_within table) → (a b : ℕ) → IsTrue (is_element table a) → IsTrue (is_below table a b) → IsTrue (is_element table b)
+table_within table within a b h p = go (cases_lt b (length table))
+  where
+    small : slice_index table a < 2 ^ length table
+    small = ltb-true (slice_index table a) (2 ^ length table) (passes_below (λ x. nat_lt (slice_index table x) (2 ^ length table)) (length table) a within (ltb-true a (length table) h))
+
+    go : (b < length table) ⊎ (length table ≤ b) → IsTrue (is_element table b)
+    go (inl l) = lt-ltb b (length table) l
+    go (inr l) = let none = has_beyond (length table) (slice_index table a) b small l in absurd (cc)

@@ -8,7 +8,7 @@ use Rattle.design_model.specs.declared.expr.Constraint.{Constraint}
 use Rattle.design_model.specs.declared.expr.Expr.TheVariants as expr
 use Rattle.design_model.specs.declared.expr.Greater.TheVariants as greater
 use Rattle.model_examples.specs.Elements.{types_over, element_port}
-use Rattle.model_examples.specs.TableOrderLaws.{table_order}
+use Rattle.model_examples.specs.TableOrderLaws.{table_order, table_within}
 use Rattle.model_examples.specs.Words.{constraint}
 use Rattle.order_core.specs.Finite.{IsTable}
 use Rattle.value_type.specs.declared.port.Port.{Port}
@@ -22,7 +22,7 @@ abbrev pub table : List ℕ
 table = 13 ∷ 14 ∷ 4 ∷ 8 ∷ []
 
 pub is_table : IsTable table
-is_table = record { some = omega arith; few = omega arith; order = table_order table refl refl refl }
+is_table = record { some = omega arith; few = omega arith; order = table_order table refl refl refl; within = table_within table refl }
 
 abbrev pub poset : Poset
 poset = record { name = codes "p"; elements = codes "a" ∷ codes "b" ∷ codes "c" ∷ codes "d" ∷ []; order = record { table = table; is_table = is_table } }

@@ -2,14 +2,10 @@
 use Rattle.std.proofs.Common.{◌≡◌, ◌∙◌, ◌<◌, ◌+◌, refl, sym, ap, ℕ, List, ◌∷◌, ◌++◌, drop, length, get_or}
 use Rattle.std.proofs.lemmas.List.{drop_more}
 use Rattle.std.specs.List.{flat_map}
-use Rattle.std.specs.Prelude.{Option, Result, Ok, Err, OnOk}
+use Rattle.std.specs.Prelude.{Option}
 use Rattle.fault_list.specs.Faults.{earlier, least}
 use Rattle.fault_list.specs.FaultLaws.{earlier_of_three, least_joined}
 use Rattle.fault_list.specs.declared.fault.Fault.{Fault}
-
-pub on_ok : {A E : Type 0} (P Q : Type 0) (r : Result A E) → (P → Q) → OnOk r P → OnOk r Q
-on_ok P Q (Ok x) f h = f h
-on_ok P Q (Err e) f h = h
 
 pub noted_both : (xs ys : List Fault) (first middle last : Option Fault) → middle ≡ earlier first (least xs) → last ≡ earlier middle (least ys) → last ≡ earlier first (least (xs ++ ys))
 noted_both xs ys first middle last e f =

@@ -1,31 +1,20 @@
 -- The minimal elements of a set of elements are an upper set, and each element of the set is in it.
-use Rattle.std.proofs.Common.{refl, sym, ◌∙◌, arith, inl, inr}
+use Rattle.std.proofs.Common.{refl, sym, ◌∙◌, arith}
 use Rattle.std.proofs.lemmas.Bool.{ltb-true, lt-ltb, or_left}
 use Rattle.std.specs.Int.Bits.{bit_and}
 use Rattle.std.specs.List.{list_all}
-use Rattle.std.specs.Prelude.{◌≡◌, ◌+◌, ◌-◌, ◌^◌, ◌<◌, ◌&&◌, ℕ, Bool, nat_le, IsTrue, List, [], ◌∷◌, length, slice_index}
+use Rattle.std.specs.Prelude.{◌≡◌, ◌-◌, ◌^◌, ◌<◌, ◌&&◌, ℕ, IsTrue, List, [], ◌∷◌, length, slice_index}
 use Rattle.order_core.specs.NumbersBelowLaws.{number_passes, passing_number}
 use Rattle.order_core.specs.WordLaws.{has_and, has_all}
 use Rattle.order_core.specs.DescentLaws.{minimal_below}
 use Rattle.order_core.specs.Finite.{is_element, is_below, IsTable}
-use Rattle.order_core.specs.IncomparableLaws.{apart_intro}
 use Rattle.order_core.specs.MemberLaws.{first, second, both, any_intro, all_elim, all_intro}
 use Rattle.order_core.specs.Members.{IsMember}
 use Rattle.order_core.specs.MinimalElements.{IsHeld, AreMinimal}
-use Rattle.order_core.specs.Order.{IsLeast, AreBounds, apart, are_incomparable}
+use Rattle.order_core.specs.Order.{IsLeast, AreBounds, are_incomparable}
 use Rattle.order_core.specs.Upper.{rise_from, is_upper, is_in, upper_leq}
-use Rattle.order_core.specs.UpperLaws.{at_least}
-use Rattle.order_core.specs.Word.{has, members_below}
-
--- Of a rising list's members, none is at most another where that makes them the same.
-pub rising_incomparable : (leq : ℕ → ℕ → Bool) (k : ℕ) (xs : List ℕ) → IsTrue (rise_from k xs) → ((v w : ℕ) → IsMember v xs → IsMember w xs → IsTrue (leq v w) → v ≡ w)
-    → IsTrue (are_incomparable leq xs)
-rising_incomparable leq k [] h same = refl
-rising_incomparable leq k (x ∷ xs) h same = both _ _
-    (all_intro (apart leq x) xs (λ w m. apart_intro leq x w
-    (λ l. let e = same x w (inl refl) (inr m) l in let a = at_least (x + 1) w xs (second (nat_le k x) _ h) m in omega arith)
-    (λ l. let e = same w x (inr m) (inl refl) l in let a = at_least (x + 1) w xs (second (nat_le k x) _ h) m in omega arith)))
-    (rising_incomparable leq (x + 1) xs (second (nat_le k x) _ h) (λ v w m n. same v w (inr m) (inr n)))
+use Rattle.order_core.specs.UpperLaws.{rising_incomparable}
+use Rattle.order_core.specs.Word.{is_in_word, members_below}
 
 module _ (table : List ℕ) (is_table : IsTable table) (word : ℕ) (xs : List ℕ) (minimal : AreMinimal table word xs) where
   pub minimal_in_set : (x : ℕ) → IsMember x xs → IsHeld table word x
@@ -39,16 +28,16 @@ module _ (table : List ℕ) (is_table : IsTable table) (word : ℕ) (xs : List �
   pub minimal_reach : (x : ℕ) → IsHeld table word x → IsTrue (is_in table xs x)
   minimal_reach x h =
       let all = members_below (length table) word in
-      let values : IsTrue (list_all (is_element table) all) = all_intro (is_element table) all (λ w m. lt-ltb _ _ (number_passes (has word) (length table) w m).0) in
+      let values : IsTrue (list_all (is_element table) all) = all_intro (is_element table) all (λ w m. lt-ltb _ _ (number_passes (is_in_word word) (length table) w m).0) in
       let d = minimal_below (is_element table) (is_below table) is_table.order all x values (into x h) in
       any_intro (λ y. is_below table y x) xs d.0
       ((minimal.members d.0).1 (record { element = back d.0 d.1.element; least = λ y k l. d.1.least y (into y k) l })) d.2
     where
       into : (y : ℕ) → IsHeld table word y → IsMember y (members_below (length table) word)
-      into y k = passing_number (has word) (length table) y (ltb-true _ _ k.0) k.1
+      into y k = passing_number (is_in_word word) (length table) y (ltb-true _ _ k.0) k.1
 
       back : (y : ℕ) → IsMember y (members_below (length table) word) → IsHeld table word y
-      back y m = let r = number_passes (has word) (length table) y m in (lt-ltb _ _ r.0, r.1)
+      back y m = let r = number_passes (is_in_word word) (length table) y m in (lt-ltb _ _ r.0, r.1)
 
 -- The least elements of a finite order, and its bounds of two elements.
 module _ (table : List ℕ) (is_table : IsTable table) (xs : List ℕ) where
@@ -87,7 +76,7 @@ module _ (table : List ℕ) (is_table : IsTable table) (m : List ℕ) where
     complete = λ xs h. or_left _ _ (all_intro (is_in table m) xs (λ x k. (minimal_least table is_table m minimal).complete x (all_elim (is_element table) xs x (first _ _ h) k)));
   }
 
-  pub minimal_bounds_upper : (xs ys : List ℕ) (a b : ℕ) → ((x : ℕ) → has a x ≡ is_in table xs x) → ((x : ℕ) → has b x ≡ is_in table ys x) → AreMinimal table (bit_and a b) m
+  pub minimal_bounds_upper : (xs ys : List ℕ) (a b : ℕ) → ((x : ℕ) → is_in_word a x ≡ is_in table xs x) → ((x : ℕ) → is_in_word b x ≡ is_in table ys x) → AreMinimal table (bit_and a b) m
       → AreBounds (is_upper table) (upper_leq table) xs ys (m ∷ [])
   minimal_bounds_upper xs ys a b a_is b_is minimal = record {
     values = both _ _ (minimal_upper table is_table (bit_and a b) m minimal) refl;
@@ -98,7 +87,7 @@ module _ (table : List ℕ) (is_table : IsTable table) (m : List ℕ) where
         (all_elim (is_element table) zs z (first _ _ h) k, shared_is z ∙ both _ _ (all_elim (is_in table xs) zs z p k) (all_elim (is_in table ys) zs z q k))));
   }
     where
-      shared_is : (x : ℕ) → has (bit_and a b) x ≡ is_in table xs x && is_in table ys x
+      shared_is : (x : ℕ) → is_in_word (bit_and a b) x ≡ is_in table xs x && is_in table ys x
       shared_is x = let at = a_is x in let bt = b_is x in rw (← at, ← bt) (has_and a b x)
 
       in_both : (x : ℕ) → IsMember x m → IsTrue (is_in table xs x && is_in table ys x)

@@ -12,13 +12,13 @@ use Rattle.order_core.proofs.MinimalLaws.{minimal_upper, minimal_reach}
 use Rattle.order_core.specs.NumbersBelowLaws.{number_passes, passing_number, numbers_rise}
 use Rattle.order_core.specs.Upper.{is_upper, is_in, upper_leq}
 use Rattle.order_core.specs.UpperLaws.{rising_same}
-use Rattle.order_core.specs.Word.{has}
+use Rattle.order_core.specs.Word.{is_in_word}
 
 pub all_few : (table numbers : List ℕ) → length table ≤ 64 → IsTrue (list_all (is_element table) numbers) → IsTrue (list_all (λ x. nat_lt x 64) numbers)
 all_few table numbers few h = all_intro (λ x. nat_lt x 64) numbers (λ x m. let l = ltb-true x (length table) (all_elim (is_element table) numbers x h m) in lt-ltb x 64 (omega arith))
 
 module _ (table : List ℕ) (is_table : IsTable table) (elements : List ℕ) (values : IsTrue (list_all (is_element table) elements)) (word : ℕ)
-    (holds : (x : ℕ) → has word x ≡ list_any (nat_eq x) elements) (xs : List ℕ) (minimal : AreMinimal table word xs) where
+    (holds : (x : ℕ) → is_in_word word x ≡ list_any (nat_eq x) elements) (xs : List ℕ) (minimal : AreMinimal table word xs) where
   listed : (x : ℕ) → IsTrue (list_any (nat_eq x) elements) → IsMember x elements
   listed x h = let w = any_elim (nat_eq x) elements h in let same : x ≡ w.0 = eqb-true x w.0 w.2 in subst (λ z. IsMember z elements) (sym same) w.1
 

@@ -14,6 +14,7 @@ pub mod MemberLaws
 pub mod Members
 pub mod Minimal
 pub mod MinimalElements
+pub mod MinimalElementsLaws
 pub mod Mutual
 pub mod Num
 pub mod NumbersBelow

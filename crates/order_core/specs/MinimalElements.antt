@@ -6,15 +6,15 @@ use Rattle.order_core.specs.Members.{IsMember}
 use Rattle.order_core.specs.Minimal.{IsMinimal}
 use Rattle.order_core.specs.NumbersBelow.{numbers_below}
 use Rattle.order_core.specs.Upper.{rise_from}
-use Rattle.order_core.specs.Word.{has}
+use Rattle.order_core.specs.Word.{is_in_word}
 
 -- The element is in the set that the word holds.
 abbrev pub IsHeld : List ℕ → ℕ → ℕ → Type 0
-IsHeld table word x = IsTrue (is_element table x) × IsTrue (has word x)
+IsHeld table word x = IsTrue (is_element table x) × IsTrue (is_in_word word x)
 
 -- Another number of the set, one below k, is at most x.
 abbrev pub IsCovered : ℕ → List ℕ → ℕ → ℕ → Type 0
-IsCovered k table word x = (y : ℕ) × (y < k) × IsTrue (has word y) × (y ≢ x) × IsTrue (is_below table y x)
+IsCovered k table word x = (y : ℕ) × (y < k) × IsTrue (is_in_word word y) × (y ≢ x) × IsTrue (is_below table y x)
 
 -- The rising list of the minimal elements of the set.
 pub record AreMinimal (table : List ℕ) (word : ℕ) (xs : List ℕ) : Type 0 where

@@ -1,5 +1,5 @@
 -- Partners in turn: one item for each part.
-use Rattle.std.proofs.Common.{◌≡◌, ◌≢◌, ◌<◌, ◌≤◌, ◌+◌, ℕ, suc, refl, ap, Bool, true, false, ◌&&◌, IsTrue, List, [], ◌∷◌, ◌++◌, length, drop, map, get_or, append_assoc}
+use Rattle.std.proofs.Common.{◌≡◌, ◌≢◌, ◌<◌, ◌≤◌, ◌+◌, ℕ, suc, refl, ap, Bool, false, IsTrue, List, [], ◌∷◌, ◌++◌, length, drop, map, get_or, append_assoc}
 use Rattle.std.proofs.lemmas.List.{drop_more, drop_all}
 use Rattle.order_core.specs.MemberLaws.{first, second, append_nil}
 use Rattle.order_core.specs.Order.{IsLeast, AreBounds}

@@ -1,5 +1,5 @@
 -- A list in another order has the same members.
-use Rattle.std.proofs.Common.{refl, sym, subst, zero, suc, Bool, IsTrue, List, [], ◌∷◌, arith, inl, inr}
+use Rattle.std.proofs.Common.{Bool, IsTrue, List}
 use Rattle.std.proofs.lemmas.List.Sorted.{All-permutation, IsPermutation-sym}
 use Rattle.std.specs.List.Sorted.{IsPermutation}
 use Rattle.std.specs.List.{list_all}

@@ -1,12 +1,12 @@
 -- By reverse inclusion, the upper sets of an order are in order.
-use Rattle.std.specs.Prelude.{◌≡◌, ◌+◌, ◌≤◌, ℕ, nat_le, IsTrue, List, [], ◌∷◌}
+use Rattle.std.specs.Prelude.{◌≡◌, ◌+◌, ◌≤◌, ℕ, Bool, nat_le, IsTrue, List, [], ◌∷◌}
 use Rattle.std.specs.List.{list_all}
 use Rattle.std.proofs.Common.{refl, sym, arith, inl, inr, subst}
 use Rattle.std.proofs.lemmas.Bool.Decides.{nat_tests}
 use Rattle.order_core.specs.Members.{IsMember}
-use Rattle.order_core.specs.MemberLaws.{first, second, any_elim, any_intro, all_elim, all_intro}
-use Rattle.order_core.specs.IncomparableLaws.{one_of}
-use Rattle.order_core.specs.Order.{IsOrder, are_incomparable}
+use Rattle.order_core.specs.MemberLaws.{first, second, both, any_elim, any_intro, all_elim, all_intro}
+use Rattle.order_core.specs.IncomparableLaws.{apart_intro, one_of}
+use Rattle.order_core.specs.Order.{IsOrder, apart, are_incomparable}
 use Rattle.order_core.specs.Finite.{is_element, is_below}
 use Rattle.order_core.specs.Upper.{rise_from, is_upper, is_in, upper_leq}
 
@@ -17,6 +17,16 @@ at_least k w (x ∷ xs) h (inr m) =
     let at : IsTrue (nat_le k x) = first _ _ h in
     let rest : x + 1 ≤ w = at_least (x + 1) w xs (second (nat_le k x) _ h) m in
     grind (arith, nat_tests)
+
+-- Of a rising list's members, none is at most another where that makes them the same.
+pub rising_incomparable : (leq : ℕ → ℕ → Bool) (k : ℕ) (xs : List ℕ) → IsTrue (rise_from k xs) → ((v w : ℕ) → IsMember v xs → IsMember w xs → IsTrue (leq v w) → v ≡ w)
+    → IsTrue (are_incomparable leq xs)
+rising_incomparable leq k [] h same = refl
+rising_incomparable leq k (x ∷ xs) h same = both _ _
+    (all_intro (apart leq x) xs (λ w m. apart_intro leq x w
+    (λ l. let e = same x w (inl refl) (inr m) l in let a = at_least (x + 1) w xs (second (nat_le k x) _ h) m in omega arith)
+    (λ l. let e = same w x (inr m) (inl refl) l in let a = at_least (x + 1) w xs (second (nat_le k x) _ h) m in omega arith)))
+    (rising_incomparable leq (x + 1) xs (second (nat_le k x) _ h) (λ v w m n. same v w (inr m) (inr n)))
 
 -- Two rising lists with the same members are the same.
 pub rising_same : (k l : ℕ) (xs ys : List ℕ) → IsTrue (rise_from k xs) → IsTrue (rise_from l ys) → ((w : ℕ) → IsMember w xs → IsMember w ys) → ((w : ℕ) → IsMember w ys → IsMember w xs)

@@ -16,10 +16,10 @@ Walk pairs a b = (steps : List ℕ) × WalksAlong pairs a steps b
 abbrev pub is_pair_below : ℕ → ℕ × ℕ → Bool
 is_pair_below n pair = nat_lt pair.0 n && nat_lt pair.1 n
 
--- The table has n elements, and relates those that a walk leads from and to.
+-- The table has n elements, and relates each of them to the numbers that a walk leads to, and to no other number.
 pub record IsClosure (n : ℕ) (pairs : List (ℕ × ℕ)) (table : List ℕ) : Type 0 where
   pub size : length table ≡ n
-  pub walks : (a b : ℕ) → a < n → b < n → IsTrue (is_below table a b) ↔ Walk pairs a b
+  pub walks : (a b : ℕ) → a < n → IsTrue (is_below table a b) ↔ Walk pairs a b
 
 -- Walks lead from each to the other.
 abbrev pub BothWays : List (ℕ × ℕ) → ℕ → ℕ → Type 0

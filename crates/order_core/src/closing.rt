@@ -3,10 +3,10 @@ ghost use Rattle.std.specs.List.{list_all};
 ghost use Rattle.order_core.specs.Finite.{is_below};
 ghost use Rattle.order_core.specs.Mutual.{AreMutual, IsFirstPartner, IsFirstMutual, NoneMutual};
 ghost use Rattle.order_core.specs.Walk.{is_pair_below, IsClosure};
-ghost use Rattle.order_core.specs.Word.{has};
+ghost use Rattle.order_core.specs.Word.{is_in_word};
 
 use crate::order::NoMemory;
-use crate::word::has;
+use crate::word::is_in_word;
 use std::alloc::Global;
 
 /// The table of the walks through the pairs.
@@ -18,7 +18,7 @@ pub fn closure(alloc: Global, n: u32, pairs: &[(u32, u32)]) -> Result<Vec<u64>, 
     let mut table = equalities(alloc, n)?;
     for (a, b) in pairs {
         // Where a walk from `a` to `b` is known already, the pair adds none.
-        if !has(table[*a as usize], *b) {
+        if !is_in_word(table[*a as usize], *b) {
             join(table.as_mut_slice(), *a, *b);
         }
     }
@@ -44,11 +44,11 @@ fn join(table: &mut [u64], a: u32, b: u32)
     requires few { length table.old ≤ 64 }
     requires a_is_element { a < length table.old }
     requires b_is_element { b < length table.old }
-    ensures { table.new ≡ map (λ row. cond (has row a) (bit_or row (slice_index table.old b)) row) table.old }
+    ensures { table.new ≡ map (λ row. cond (is_in_word row a) (bit_or row (slice_index table.old b)) row) table.old }
 {
     let above = table[b as usize];
     for row in table.iter_mut() {
-        if has(*row, a) {
+        if is_in_word(*row, a) {
             *row |= above;
         }
     }
@@ -76,7 +76,7 @@ fn first_partner(table: &[u64], a: u32) -> Option<u32>
 {
     let n = table.len() as u32;
     for b in a + 1..n {
-        if has(table[a as usize], b) && has(table[b as usize], a) {
+        if is_in_word(table[a as usize], b) && is_in_word(table[b as usize], a) {
             return Some(b);
         }
     }

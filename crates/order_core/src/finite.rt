@@ -11,7 +11,7 @@ use crate::closing::{closure, first_mutual};
 use crate::list::List;
 use crate::minimal::minimal_elements;
 use crate::order::{NoMemory, Order};
-use crate::word::{has, word_of};
+use crate::word::{is_in_word, word_of};
 use std::alloc::Global;
 
 /// A partial order on the numbers below 64 or fewer, its elements.
@@ -68,7 +68,7 @@ impl FiniteOrder {
         ensures { result ≡ is_below self.now.table a b }
     {
         match self.table.get(a as usize) {
-            Some(row) => has(*row, b),
+            Some(row) => is_in_word(*row, b),
             None => false,
         }
     }

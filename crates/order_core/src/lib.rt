@@ -28,4 +28,4 @@ pub use order::{NoMemory, Order};
 pub use text::Text;
 pub use tuple::TupleOrder;
 pub use upper::UpperOrder;
-pub use word::has;
+pub use word::is_in_word;

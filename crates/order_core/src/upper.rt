@@ -4,7 +4,7 @@ ghost use Rattle.order_core.specs.Finite.{is_element, is_below};
 ghost use Rattle.order_core.specs.Order.{are_incomparable, apart, IsLeast, AreBounds};
 ghost use Rattle.order_core.specs.Upper.{is_upper, is_in, upper_leq, rise_from};
 ghost use Rattle.order_core.specs.UpperLaws.{upper_laws};
-ghost use Rattle.order_core.specs.Word.{has};
+ghost use Rattle.order_core.specs.Word.{is_in_word};
 
 use crate::finite::FiniteOrder;
 use crate::list::List;
@@ -157,7 +157,7 @@ fn contains(base: &FiniteOrder, members: &[u32], element: u32) -> bool
 /// The upper set of the members, as a word.
 fn upper_set(base: &FiniteOrder, members: &[u32]) -> u64
     requires { IsTrue (list_all (is_element base.now.table) members.now) }
-    ensures { (x : ℕ) → has result x ≡ is_in base.now.table members.now x }
+    ensures { (x : ℕ) → is_in_word result x ≡ is_in base.now.table members.now x }
 {
     let mut word = 0;
     for member in members {

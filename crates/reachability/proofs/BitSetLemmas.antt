@@ -3,7 +3,7 @@ use Rattle.std.proofs.Common.{◌≡◌, ◌∙◌, ◌<◌, ◌+◌, ◌*◌, �
 use Rattle.std.proofs.lemmas.Bool.{cases_eq, eq-eqb, ne_eqb}
 use Rattle.std.proofs.lemmas.List.{get_or_read, take-append-drop}
 use mir.Val.{bits}
-use Rattle.order_core.specs.Word.{has}
+use Rattle.order_core.specs.Word.{is_in_word}
 use Rattle.order_core.specs.WordLaws.{has_none, has_or, has_shifted}
 use Rattle.reachability.specs.BitSets.{has_in, united}
 use Rattle.std.proofs.Math.Bool.{or-false}
@@ -15,7 +15,7 @@ zero_at (suc n) zero = refl
 zero_at (suc n) (suc i) = zero_at n i
 
 pub has_in-none : (n x : ℕ) → has_in (replicate n 0) x ≡ false
-has_in-none n x = ap (λ (w : ℕ). has w (x % 64)) (zero_at n (x / 64)) ∙ has_none (x % 64)
+has_in-none n x = ap (λ (w : ℕ). is_in_word w (x % 64)) (zero_at n (x / 64)) ∙ has_none (x % 64)
 
 pub length-united : (xs ys : List ℕ) → length (united xs ys) ≡ length xs
 length-united [] ys = refl
@@ -30,7 +30,7 @@ united_at (x ∷ xs) (y ∷ ys) zero e = refl
 united_at (x ∷ xs) (y ∷ ys) (suc i) e = united_at xs ys i (omega arith)
 
 pub has_in-united : (xs ys : List ℕ) (x : ℕ) → length ys ≡ length xs → has_in (united xs ys) x ≡ has_in xs x || has_in ys x
-has_in-united xs ys x e = ap (λ (w : ℕ). has w (x % 64)) (united_at xs ys (x / 64) e) ∙ has_or (get_or xs (x / 64) 0) (get_or ys (x / 64) 0) (x % 64)
+has_in-united xs ys x e = ap (λ (w : ℕ). is_in_word w (x % 64)) (united_at xs ys (x / 64) e) ∙ has_or (get_or xs (x / 64) 0) (get_or ys (x / 64) 0) (x % 64)
 
 -- One word more of a union in place.
 abbrev pub united_to : List ℕ → List ℕ → ℕ → List ℕ
@@ -97,10 +97,10 @@ module _ (words : List ℕ) (number : ℕ) (within : number / 64 < length words)
       go (inl e) =
           let word : get_or inserted (x / 64) 0 ≡ bit_or (get_or words (x / 64) 0) (1 * 2 ^ (number % 64) % 2 ^ bits w64) =
           subst (λ (i : ℕ). get_or inserted i 0 ≡ bit_or (get_or words i 0) (1 * 2 ^ (number % 64) % 2 ^ bits w64)) (sym e) (get_or-set_same words (number / 64) _ 0 within) in
-          ap (λ (w : ℕ). has w (x % 64)) word
+          ap (λ (w : ℕ). is_in_word w (x % 64)) word
           ∙ has_or (get_or words (x / 64) 0) (1 * 2 ^ (number % 64) % 2 ^ bits w64) (x % 64)
           ∙ ap (λ (t : Bool). has_in words x || t) (has_shifted (number % 64) (x % 64) few ∙ bit e)
       go (inr e) =
           let word : get_or inserted (x / 64) 0 ≡ get_or words (x / 64) 0 = get_or-set_other words (number / 64) (x / 64) _ 0 e in
           let other : nat_eq x number ≡ false = ne_eqb x number (λ f. e (ap (λ (z : ℕ). z / 64) f)) in
-          ap (λ (w : ℕ). has w (x % 64)) word ∙ sym (or-false (has_in words x)) ∙ ap (λ (t : Bool). has_in words x || t) (sym other)
+          ap (λ (w : ℕ). is_in_word w (x % 64)) word ∙ sym (or-false (has_in words x)) ∙ ap (λ (t : Bool). has_in words x || t) (sym other)

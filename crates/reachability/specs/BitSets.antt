@@ -1,10 +1,10 @@
 -- Sets of numbers as lists of words: word i has the numbers from 64 * i on, a bit for each.
 use Rattle.std.specs.Prelude.{◌/◌, ◌%◌, ℕ, Bool, List, [], ◌∷◌, slice_index, slice_index_or, bit_or}
-use Rattle.order_core.specs.Word.{has}
+use Rattle.order_core.specs.Word.{is_in_word}
 
 -- Beyond its words a set has no number.
 abbrev pub has_in : List ℕ → ℕ → Bool
-has_in words x = has (slice_index words (x / 64)) (x % 64)
+has_in words x = is_in_word (slice_index words (x / 64)) (x % 64)
 
 -- Of a set for each number: whether that of a has b. Beyond the sets no number has any.
 abbrev pub has_at : List (List ℕ) → ℕ → ℕ → Bool

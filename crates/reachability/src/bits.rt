@@ -1,7 +1,7 @@
 ghost use Rattle.std.specs.Prelude.{◌≡◌, ◌<◌, ◌/◌, ◌||◌, ℕ, IfOk, length, nat_eq, replicate};
 ghost use Rattle.reachability.specs.BitSets.{has_in, united};
 
-use order_core::{NoMemory, has};
+use order_core::{NoMemory, is_in_word};
 use std::alloc::Global;
 use std::marker::Model;
 
@@ -24,20 +24,16 @@ impl BitSet {
     pub fn empty(alloc: Global, width: usize) -> Result<BitSet, NoMemory>
         ensures { IfOk result (λ made. made ≡ replicate width 0) }
     {
-        match vec![in alloc; 0; width] {
-            Ok(words) => Ok(BitSet { words }),
-            Err(_) => Err(NoMemory),
-        }
+        let words = vec![in alloc; 0; width]?;
+        Ok(BitSet { words })
     }
 
     /// The same set in memory of its own.
     pub fn copy(&self, alloc: Global) -> Result<BitSet, NoMemory>
         ensures { IfOk result (λ made. made ≡ self.now) }
     {
-        match self.words.as_slice().to_vec(alloc) {
-            Ok(words) => Ok(BitSet { words }),
-            Err(_) => Err(NoMemory),
-        }
+        let words = self.words.as_slice().to_vec(alloc)?;
+        Ok(BitSet { words })
     }
 
     /// Whether the number is in the set.
@@ -45,7 +41,7 @@ impl BitSet {
         ensures { result ≡ has_in self.now number }
     {
         match self.words.as_slice().get((number / 64) as usize) {
-            Some(word) => has(*word, number % 64),
+            Some(word) => is_in_word(*word, number % 64),
             None => false,
         }
     }

@@ -41,9 +41,7 @@ fn empty_rows(alloc: Global, n: u32) -> Result<Vec<BitSet>, NoMemory>
     let mut rows = Vec::new(alloc);
     for _ in 0..n {
         let row = BitSet::empty(alloc, width)?;
-        if rows.push(row).is_err() {
-            return Err(NoMemory);
-        }
+        rows.push(row)?;
     }
     Ok(rows)
 }

@@ -2,7 +2,8 @@ use Rattle.std.proofs.Common.{[], ◌++◌, map}
 use Rattle.design_lexer.specs.declared.tree.BranchTree.{BranchTree}
 use Rattle.design_lexer.specs.declared.tree.RowTree.{RowTree}
 use Rattle.name_rules.specs.Twice.{branch_repeats, port_repeats, repeats, shared}
-use Rattle.name_rules.proofs.NoteLemmas.{on_ok, noted_both}
+use Rattle.order_core.specs.ResultLaws.{on_ok}
+use Rattle.name_rules.proofs.NoteLemmas.{noted_both}
 use Rattle.name_rules.proofs.file.note_twice_in_body.Goals as goal
 
 pub returns-in_ok-note_twice_ports-in-Catalogue : goal.returns-in_ok-note_twice_ports-in-Catalogue

@@ -1,7 +1,8 @@
 use Rattle.std.proofs.Common.{[], map}
 use Rattle.design_lexer.specs.declared.tree.ParamTree.{ParamTree}
 use Rattle.name_rules.specs.Twice.{body_repeats, repeats}
-use Rattle.name_rules.proofs.NoteLemmas.{on_ok, noted_both}
+use Rattle.order_core.specs.ResultLaws.{on_ok}
+use Rattle.name_rules.proofs.NoteLemmas.{noted_both}
 use Rattle.name_rules.proofs.file.note_twice_in_file.Goals as goal
 
 pub returns-in_ok-note_twice-in-Template : goal.returns-in_ok-note_twice-in-Template

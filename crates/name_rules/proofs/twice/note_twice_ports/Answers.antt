@@ -1,7 +1,8 @@
 use Rattle.std.proofs.Common.{[]}
 use Rattle.design_lexer.specs.declared.tree.Side.TheVariants.{Provides, Requires}
 use Rattle.name_rules.specs.Twice.{port_names, repeats}
-use Rattle.name_rules.proofs.NoteLemmas.{on_ok, noted_both}
+use Rattle.order_core.specs.ResultLaws.{on_ok}
+use Rattle.name_rules.proofs.NoteLemmas.{noted_both}
 use Rattle.name_rules.proofs.twice.note_twice_ports.Goals as goal
 
 pub returns : goal.returns
