@@ -1,4 +1,5 @@
 -- Read Faults and Answers first. Modules whose names end in Laws hold lemmas.
 pub mod Answers
+pub mod AnswersLaws
 pub mod Faults
 pub mod FaultLaws

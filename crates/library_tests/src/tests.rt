@@ -1,3 +1,5 @@
+mod names;
+
 use design_lexer::lex;
 use design_parser::{FileKind, parse_file};
 use fault_list::{Fault, FaultKind};

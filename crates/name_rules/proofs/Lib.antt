@@ -1,4 +1,4 @@
 pub mod NoteLemmas
-pub mod PlaceLemmas
 pub mod ReferenceLemmas
 pub mod TwiceLemmas
+pub mod UnknownLemmas

@@ -14,7 +14,7 @@ use Rattle.name_index.specs.NameLaws.{number_with}
 use Rattle.name_index.specs.Names.{number_of, with_name, first_number}
 use Rattle.name_rules.specs.Twice.{is_listed, repeats, twice}
 
-listed_more : (before : List NameAt) (n : NameAt) (names : List (List ℕ × ℕ)) (k : ℕ) → ((other : List ℕ) → is_some (number_of names other) ≡ is_listed before other)
+pub listed_more : (before : List NameAt) (n : NameAt) (names : List (List ℕ × ℕ)) (k : ℕ) → ((other : List ℕ) → is_some (number_of names other) ≡ is_listed before other)
     → (other : List ℕ) → is_some (number_of (with_name names n.name k) other) ≡ is_listed (before ++ n ∷ []) other
 listed_more before n names k h other =
     ap is_some (number_with names n.name k other) ∙ go (number_of names other) (h other) ∙ sym (list_any-append (λ (m : NameAt). bytes_eq other m.name) before (n ∷ []))

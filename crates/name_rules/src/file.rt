@@ -1,6 +1,6 @@
 ghost use Rattle.std.specs.Prelude.{◌≡◌, ◌↔◌, IsTrue, OnOk};
 ghost use Rattle.fault_list.specs.Faults.{earlier, least};
-ghost use Rattle.name_rules.specs.Sizes.{HasFewPorts, IsSmall};
+ghost use Rattle.name_rules.specs.Sizes.{IsFew, IsSmall, IsSmallBody};
 ghost use Rattle.name_rules.specs.Twice.{body_repeats, twice_faults};
 
 use crate::references::{note_shared, note_twice_branches};
@@ -13,15 +13,38 @@ use std::alloc::Global;
 /// So many numbers have 32 bits.
 const MANY: usize = 1 << 32;
 
-/// Whether the file has fewer than 2^32 ports.
+/// Whether each list of the file has fewer than 2^32 members: its elements, parameters, ports, rows, branches,
+/// instances and rules.
 pub fn is_small(file: &File) -> bool
     ensures { IsTrue result ↔ IsSmall file.now }
 {
     match file {
-        File::Design(BodyTree::Net { ports, .. }) => ports.items().len() < MANY,
-        File::Template(_, BodyTree::Net { ports, .. }) => ports.items().len() < MANY,
-        _ => true,
+        File::Poset(poset) => is_few(poset.elements.items()),
+        File::Interface(ports) => is_few(ports.items()),
+        File::Design(body) => is_small_body(body),
+        File::Template(params, body) => is_few(params.items()) && is_small_body(body),
     }
+}
+
+fn is_small_body(body: &BodyTree) -> bool
+    ensures { IsTrue result ↔ IsSmallBody body.now }
+{
+    match body {
+        BodyTree::Catalogue { ports, rows, .. } => is_few(ports.items()) && is_few(rows.items()),
+        BodyTree::Choose(branches) => is_few(branches.items()),
+        BodyTree::Net {
+            ports,
+            parts,
+            rules,
+        } => is_few(ports.items()) && is_few(parts.items()) && is_few(rules.items()),
+    }
+}
+
+/// Whether the list has fewer than 2^32 members.
+fn is_few<T>(items: &[T]) -> bool
+    ensures { IsTrue result ↔ IsFew items.now }
+{
+    items.len() < MANY
 }
 
 /// Notes each name of the file that stands twice where it may stand once.
@@ -50,7 +73,7 @@ fn note_twice_in_body(
     body: &BodyTree,
     first: &mut Option<Fault>,
 ) -> Result<(), NoMemory>
-    requires small { HasFewPorts body.now }
+    requires small { IsSmallBody body.now }
     ensures { OnOk result (first.new ≡ earlier first.old (least (body_repeats body.now))) }
 {
     match body {

@@ -1,4 +1,3 @@
 pub mod BitSetLemmas
-pub mod Inner
 pub mod RoundLemmas
 pub mod RowLemmas

@@ -10,7 +10,7 @@ use Rattle.order_core.specs.WordLaws.{has_none}
 use Rattle.reachability.specs.BitSets.{has_in, has_at, united}
 use Rattle.reachability.specs.Rounds.{passed, AreRows, AreDirect, AreClosed}
 use Rattle.reachability.proofs.BitSetLemmas.{has_in-united, length-united}
-use Rattle.reachability.proofs.Inner.{Via, via_none, via_led, led_via, via_all}
+use Rattle.reachability.specs.ViaLaws.{Via, via_none, via_led, led_via, via_all}
 use Rattle.std.proofs.Math.Bool.{or-true}
 
 -- A row after a round.

@@ -8,5 +8,7 @@ mod rounds;
 #[cfg(test)]
 mod tests;
 
-pub use laws::{ranks_fall, tables_stay_within, tables_tell_what_comes_back};
+pub use laws::{
+    chains_are_worked_out, ranks_fall, tables_stay_within, tables_tell_what_comes_back,
+};
 pub use reach::Reachability;

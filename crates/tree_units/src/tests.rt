@@ -1,3 +1,5 @@
+mod ports;
+
 use crate::{Constant, constant_of, is_whole, product_of, unit_of};
 use design_lexer::{ConstantTree, FactorTree, NameAt, Number};
 use fault_list::{Fault, FaultKind};

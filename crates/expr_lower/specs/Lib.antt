@@ -1,0 +1,11 @@
+-- Read Reading first: what an expression is read as, and its faults. Modules whose names end in Laws hold lemmas.
+pub mod LiteralLaws
+pub mod Literals
+pub mod MeaningLaws
+pub mod Meanings
+pub mod Operands
+pub mod Operators
+pub mod Reading
+pub mod ReadingLaws
+pub mod Together
+pub mod TypedLaws

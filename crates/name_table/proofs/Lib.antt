@@ -1,0 +1,9 @@
+pub mod CircularLemmas
+pub mod KnownLemmas
+pub mod OrderLemmas
+pub mod PairLemmas
+pub mod PosetLemmas
+pub mod ReferenceLemmas
+pub mod SpellingLemmas
+pub mod StemLemmas
+pub mod WholeLemmas

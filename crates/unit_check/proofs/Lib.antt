@@ -1,0 +1,5 @@
+pub mod MarkLemmas
+pub mod NamedLemmas
+pub mod NetLemmas
+pub mod PlaceLemmas
+pub mod RestLemmas
