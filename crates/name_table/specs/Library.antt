@@ -7,7 +7,7 @@ use Rattle.name_rules.specs.Sizes.{IsSmall}
 use Rattle.name_table.specs.Files.{poset_files}
 use Rattle.name_table.specs.NameFaults.{name_faults}
 use Rattle.name_table.specs.Orders.{IsPosetOf}
-use Rattle.name_table.specs.Ranks.{RanksFall}
+use Rattle.name_table.specs.Ranks.{AreRanks}
 use Rattle.name_table.specs.References.{references}
 use Rattle.name_table.specs.Stems.{AreStems, AreTableStems}
 use Rattle.name_table.specs.declared.library.LibraryNames.{LibraryNames}
@@ -37,9 +37,9 @@ pub record AreInOrder (files : List SourceFile) (tables : List Table) : Type 0 w
   pub few_tables : length tables < 2 ^ 32
   pub faultless : name_faults files tables ≡ []
 
--- The indexes have the places of the stems, and the ranks fall along references.
+-- The indexes have the places of the stems, and the ranks those of the references.
 pub record AreIndexed (files : List SourceFile) (tables : List Table) (types : Types) (library : LibraryNames) (posets : List (List ℕ × ℕ)) (ranks : List ℕ) : Type 0 where
   pub stems : AreStems files library.stems
   pub tables_are : AreTableStems tables library.tables
   pub posets_are : (name : List ℕ) → number_of posets name ≡ poset_place types name
-  pub fall : RanksFall (references files) ranks
+  pub ranks_are : AreRanks (length files) (references files) ranks

@@ -5,7 +5,7 @@ ghost use Rattle.name_table.specs.Files.{is_design, stem_place};
 ghost use Rattle.name_table.specs.Found.{AreFound};
 ghost use Rattle.name_table.specs.Library.{AreSmall};
 ghost use Rattle.name_table.specs.NameFaults.{name_faults};
-ghost use Rattle.name_table.specs.Ranks.{RanksFall};
+ghost use Rattle.name_table.specs.Ranks.{AreRanks};
 ghost use Rattle.name_table.specs.References as refs;
 
 use crate::library::{LibraryNames, library_names};
@@ -56,7 +56,7 @@ fn file_ranks(
 ) -> Result<List<u32>, StageFault>
     requires few { length files.now < 2 ^ 32 }
     requires designs { (stem : List ℕ) → number_of designs.now stem ≡ stem_place is_design files.now stem }
-    ensures { Answers (refs.circular_faults files.now) (RanksFall (refs.references files.now)) result }
+    ensures { Answers (refs.circular_faults files.now) (AreRanks (length files.now) (refs.references files.now)) result }
 {
     let pairs = references(alloc, designs, files)?;
     ranks_of(alloc, files, pairs.as_slice())

@@ -3,7 +3,7 @@
 ghost use Rattle.std.specs.Prelude.{◌<◌, ◌↔◌, ℕ, IsTrue, List, length};
 ghost use Rattle.design_lexer.specs.declared.tree.PosetTree.{PosetTree};
 ghost use Rattle.name_table.specs.Orders.{declared_pairs, has_cycle};
-ghost use Rattle.name_table.specs.Ranks.{RanksFall};
+ghost use Rattle.name_table.specs.Ranks.{AreRanks};
 ghost use Rattle.name_table.specs.References.{references};
 ghost use Rattle.name_table.specs.declared.source.SourceFile.{SourceFile};
 ghost use Rattle.order_core.specs.Walk.{BothWays};
@@ -12,9 +12,10 @@ ghost use Rattle.reachability.specs.Reaches.{Reaches};
 
 use crate::names::Names;
 
-/// Each file has a higher rank than those that it refers to, so no chain of references comes back.
+/// Each file has a higher rank than those that it refers to, so no chain of references comes back. No rank is greater than
+/// the number of files.
 pub fn references_fall(names: &Names)
-    ensures { RanksFall (references names.now.files) names.now.ranks }
+    ensures { AreRanks (length names.now.files) (references names.now.files) names.now.ranks }
 {
     let _names = names;
 }

@@ -1,5 +1,6 @@
-ghost use Rattle.std.specs.Prelude.{◌≡◌, ◌<◌, ◌^◌, length, slice_index};
+ghost use Rattle.std.specs.Prelude.{◌≡◌, ◌<◌, ◌^◌, ℕ, List, length, slice_index};
 ghost use Rattle.fault_list.specs.Answers.{Answers};
+ghost use Rattle.name_index.specs.Names.{number_of};
 ghost use Rattle.name_table.specs.Files.{is_design, is_interface, stem_place, table_place};
 ghost use Rattle.name_table.specs.Library.{AreIndexed, AreInOrder, ArePosets, AreSmall};
 ghost use Rattle.tree_units.specs.Posets.{poset_place};
@@ -56,6 +57,13 @@ impl Names {
         ensures { result ≡ poset_place self.now.types stem.now }
     {
         self.posets.get(stem)
+    }
+
+    /// The names of the posets, with their numbers among the posets of the types.
+    pub fn posets(&self) -> &NameIndex
+        ensures { (name : List ℕ) → number_of result.now name ≡ poset_place self.now.types name }
+    {
+        &self.posets
     }
 
     /// The number of the table of this name among the tables.

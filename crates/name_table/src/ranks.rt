@@ -2,7 +2,7 @@ ghost use Rattle.std.specs.Prelude.{◌≡◌, ◌<◌, ◌^◌, ℕ, List, IsTr
 ghost use Rattle.std.specs.List.{list_all};
 ghost use Rattle.fault_list.specs.Answers.{Answers};
 ghost use Rattle.name_table.specs.References.{circular_from};
-ghost use Rattle.name_table.specs.Ranks.{RanksFall};
+ghost use Rattle.name_table.specs.Ranks.{AreRanks};
 ghost use Rattle.order_core.specs.Walk.{is_pair_below};
 
 use crate::source::SourceFile;
@@ -19,7 +19,7 @@ pub fn ranks_of(
 ) -> Result<List<u32>, StageFault>
     requires few { length files.now < 2 ^ 32 }
     requires pairs { IsTrue (list_all (is_pair_below (length files.now)) pairs.now) }
-    ensures { Answers (circular_from pairs.now (length files.now) 0 files.now) (RanksFall pairs.now) result }
+    ensures { Answers (circular_from pairs.now (length files.now) 0 files.now) (AreRanks (length files.now) pairs.now) result }
 {
     let size = files.len() as u32;
     let reach = Reachability::of(alloc, size, pairs)?;

@@ -1,3 +1,5 @@
+mod RuleLemmas
+mod ScopeLemmas
 pub mod MarkLemmas
 pub mod NamedLemmas
 pub mod NetLemmas

@@ -1,16 +1,22 @@
 -- Places of parts and of files.
 use Rattle.std.proofs.Common.{◌≡◌, ◌∙◌, ◌<◌, ◌≤◌, ◌+◌, ◌&&◌, ◌⊎◌, inl, inr, arith, refl, sym, ap, subst, ℕ, zero, suc, Bool, true, false, cond, List, [], ◌∷◌, length, get_or}
 use Rattle.std.specs.List.{position_from}
-use Rattle.std.proofs.lemmas.Option.{slice_get_cases}
+use Rattle.std.proofs.lemmas.Option.{slice_get_cases, slice_get-map}
 use Rattle.std.proofs.lemmas.Slice.Eq.{bytes_eq-Decides}
-use Rattle.std.specs.Prelude.{Option, Some, None, slice_get}
+use Rattle.std.specs.Prelude.{Option, Some, None, map, option_and_then, option_map, slice_get}
 use Rattle.std.specs.Str.{bytes_eq}
+use Rattle.design_lexer.specs.declared.tree.BranchTree.{BranchTree}
 use Rattle.design_lexer.specs.declared.tree.ParamTree.{ParamTree}
+use Rattle.design_lexer.specs.declared.tree.RefTree.{out-RefTree}
 use Rattle.name_index.specs.PlaceLaws.{place_below, position_below}
 use Rattle.name_index.specs.Places.{named_item, place_of}
 use Rattle.name_table.specs.Files.{is_design, is_interface, stem_place}
 use Rattle.name_table.specs.declared.source.SourceFile.{SourceFile}
-use Rattle.unit_check.specs.Declaring.{file_of, named_file}
+use Rattle.unit_check.specs.Declaring.{choice_of, declaring, file_of, named_file, next_file, params_of, part_file}
+use Rattle.unit_check.specs.FollowLaws.{follow-within}
+use Rattle.unit_check.specs.Held.{part_held, sides_held}
+use Rattle.unit_check.specs.Scopes.{PartPorts, Sides, part_at}
+use Rattle.unit_check.specs.declared.scope.ScopePart.{ScopePart}
 
 -- A place that is found is not before the first one.
 at_least : {A : Type 0} (p : A → Bool) (s : ℕ) (xs : List A) (k : ℕ) → position_from p s xs ≡ Some k → s ≤ k
@@ -59,3 +65,56 @@ named_file_below files params name k e = go (named_item (λ (p : ParamTree). p.n
     go : (o : Option ParamTree) → file_of files name o ≡ Some k → k < length files
     go (Some p) h = stem_below is_interface p.interface.name h
     go None h = stem_below is_design name h
+
+-- The file that declares the ports of a file is one of the files.
+pub declaring_below : (files : List SourceFile) (i : ℕ) → i < length files → declaring files i < length files
+declaring_below files i l = follow-within (next_file files) (length files) step (length files + 1) i l
+  where
+    branch_below : (f : SourceFile) (j : ℕ) (o : Option BranchTree) → option_and_then (part_file files (params_of f.tree)) o ≡ Some j → j < length files
+    branch_below f j (Some b) e = named_file_below files (params_of f.tree) (out-RefTree b.reference).name.name j e
+    branch_below f j None e = absurd (cc)
+
+    file_below : (j : ℕ) (o : Option SourceFile) → option_and_then (λ f. option_and_then (part_file files (params_of f.tree)) (choice_of f.tree)) o ≡ Some j → j < length files
+    file_below j (Some f) e = branch_below f j (choice_of f.tree) e
+    file_below j None e = absurd (cc)
+
+    step : (k j : ℕ) → next_file files k ≡ Some j → j < length files
+    step k j e = file_below j (slice_get files k) e
+
+pub position_mapped : {A B : Type 0} (p : B → Bool) (f : A → B) (s : ℕ) (xs : List A) → position_from p s (map f xs) ≡ position_from (λ x. p (f x)) s xs
+position_mapped p f s [] = refl
+position_mapped p f s (x ∷ xs) = ap (cond (p (f x)) (Some s)) (position_mapped p f (s + 1) xs)
+
+abbrev numbered : ℕ → PartPorts → ℕ × Sides
+numbered i part = (i, part.ports)
+
+abbrev numbered_part : ℕ → ScopePart → ℕ × Sides
+numbered_part i part = (i, sides_held part.ports)
+
+-- A part of a scope, found by its name.
+part_found : (parts : List ScopePart) (name : List ℕ) → part_at (map part_held parts) name ≡ option_and_then (λ i. option_map (numbered_part i) (slice_get parts i)) (place_of (λ (p : ScopePart). p.name) parts name)
+part_found parts name = ap at_held (position_mapped (λ (p : PartPorts). bytes_eq name p.name) part_held 0 parts) ∙ go (place_of (λ (p : ScopePart). p.name) parts name)
+  where
+    at_held : Option ℕ → Option (ℕ × Sides)
+    at_held o = option_and_then (λ i. option_map (numbered i) (slice_get (map part_held parts) i)) o
+
+    held : (i : ℕ) (o : Option ScopePart) → option_map (numbered i) (option_map part_held o) ≡ option_map (numbered_part i) o
+    held i (Some part) = refl
+    held i None = refl
+
+    go : (o : Option ℕ) → at_held o ≡ option_and_then (λ i. option_map (numbered_part i) (slice_get parts i)) o
+    go (Some i) = ap (option_map (numbered i)) (slice_get-map part_held parts i) ∙ held i (slice_get parts i)
+    go None = refl
+
+module _ (parts : List ScopePart) (name : List ℕ) where
+  abbrev at_place : Option ℕ → Option (ℕ × Sides)
+  at_place o = option_and_then (λ i. option_map (numbered_part i) (slice_get parts i)) o
+
+  pub part_there : (i : ℕ) (part : ScopePart) → place_of (λ (p : ScopePart). p.name) parts name ≡ Some i → slice_get parts i ≡ Some part → part_at (map part_held parts) name ≡ Some (i, sides_held part.ports)
+  part_there i part e f = part_found parts name ∙ ap at_place e ∙ ap (option_map (numbered_part i)) f
+
+  pub part_past : (i : ℕ) → place_of (λ (p : ScopePart). p.name) parts name ≡ Some i → slice_get parts i ≡ None → part_at (map part_held parts) name ≡ None
+  part_past i e f = part_found parts name ∙ ap at_place e ∙ ap (option_map (numbered_part i)) f
+
+  pub part_missing : place_of (λ (p : ScopePart). p.name) parts name ≡ None → part_at (map part_held parts) name ≡ None
+  part_missing e = part_found parts name ∙ ap at_place e

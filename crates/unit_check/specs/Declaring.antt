@@ -1,5 +1,5 @@
 -- Which file declares the ports that a name stands for.
-use Rattle.std.specs.Prelude.{ℕ, List, [], ◌∷◌, Option, Some, None, length, option_and_then, slice_get}
+use Rattle.std.specs.Prelude.{◌+◌, ℕ, List, [], ◌∷◌, Option, Some, None, length, option_and_then, slice_get}
 use Rattle.design_lexer.specs.declared.tree.BodyTree.{BodyTree}
 use Rattle.design_lexer.specs.declared.tree.BodyTree.TheVariants as body
 use Rattle.design_lexer.specs.declared.tree.BranchTree.{BranchTree}
@@ -53,9 +53,9 @@ next_in files f = option_and_then (part_file files (params_of f)) (choice_of f)
 abbrev pub next_file : List SourceFile → ℕ → Option ℕ
 next_file files i = option_and_then (λ f. next_in files f.tree) (slice_get files i)
 
--- the number of the file that declares the ports of a file
+-- the number of the file that declares the ports of a file; no way is longer than there are files
 abbrev pub declaring : List SourceFile → ℕ → ℕ
-declaring files i = follow (next_file files) (length files) i
+declaring files i = follow (next_file files) (length files + 1) i
 
 abbrev pub body_ports : BodyTree → List PortTree
 body_ports (body.Catalogue ports rows table) = ports

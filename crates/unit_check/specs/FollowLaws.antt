@@ -1,7 +1,16 @@
--- Where each step leads to a lesser rank, the end that is followed to is the end from the next place too.
-use Rattle.std.proofs.Common.{◌≡◌, ◌∙◌, ◌≤◌, arith, refl, sym, ap, ℕ, zero, suc}
+-- Where following leads: it stays within bounds, and where each step leads to a lesser rank, the end from a place is the end from the next one.
+use Rattle.std.proofs.Common.{◌≡◌, ◌∙◌, ◌<◌, ◌≤◌, arith, refl, sym, ap, ℕ, zero, suc}
 use Rattle.std.specs.Prelude.{Option, Some, None}
 use Rattle.unit_check.specs.Follow.{Falls, follow, go_to}
+
+-- Where each step from below n leads below n, so do many.
+pub follow-within : (next : ℕ → Option ℕ) (n : ℕ) → ((i j : ℕ) → next i ≡ Some j → j < n) → (steps i : ℕ) → i < n → follow next steps i < n
+follow-within next n below zero i l = l
+follow-within next n below (suc steps) i l = at (λ j k. follow-within next n below steps j k) (next i) refl
+  where
+    at : ((j : ℕ) → j < n → follow next steps j < n) → (o : Option ℕ) → next i ≡ o → go_to (follow next steps) i o < n
+    at go None e = l
+    at go (Some j) e = go j (below i j e)
 
 module _ (next : ℕ → Option ℕ) (rank : ℕ → ℕ) (falls : Falls next rank) where
   -- With as many steps as the rank says, nothing is left to follow.

@@ -136,7 +136,7 @@ fn ports_at<'a>(names: &'a Names, declaring: &[u32], file: u32) -> &'a [PortTree
 }
 
 /// The ports that a file declares.
-fn ports_in(file: &File) -> &[PortTree]
+pub fn ports_in(file: &File) -> &[PortTree]
     ensures { result.now ≡ ports_in file.now }
 {
     match file {

@@ -19,7 +19,7 @@ pub fn declaring_files(alloc: Global, names: &Names) -> Result<List<u32>, NoMemo
     let size = names.files.items().len();
     let mut made = Vec::new(alloc);
     for file in 0..size as u32 {
-        made.push(follow(nexts.items(), size, file))?;
+        made.push(follow(nexts.items(), size + 1, file))?;
     }
     Ok(List::of(made))
 }

@@ -6,6 +6,18 @@ mod connection;
 mod declared;
 mod marks;
 mod named;
+mod places;
+mod ports;
+mod rules;
+mod scope;
+mod shared;
+mod table;
+mod types;
 
 pub use connection::check_connected;
 pub use declared::declaring_files;
+pub use ports::SidePorts;
+pub use scope::{Scope, ScopePart};
+pub use shared::Shared;
+pub use table::PortTable;
+pub use types::{check_types, lower_of, scope_of};

@@ -12,7 +12,7 @@ use Rattle.name_table.specs.Found.{AreFound}
 use Rattle.name_table.specs.Library.{ArePosets}
 use Rattle.name_table.specs.Listing.{listing_faults}
 use Rattle.name_table.specs.NameFaults.{file_faults}
-use Rattle.name_table.specs.Ranks.{RanksFall}
+use Rattle.name_table.specs.Ranks.{AreRanks}
 use Rattle.name_table.specs.References as refs
 use Rattle.name_table.specs.Stems.{known_by}
 use Rattle.name_table.specs.declared.examine.Found.{Found}
@@ -44,7 +44,7 @@ returns-in_err-ranks c =
     let tables = c.args.tables.now in
     let p = err_from_is_err_and c.from_residual-in_err-ranks.result c.from_residual-in_err-ranks.ensures.1 in
     let spelled = rw c.in_ok-library.ensures.1.2 at c.in_ok-posets.ensures.0 in
-    rw (p.1, p.2) (stopped_third (listing_faults files tables) (flat_map (file_faults (known_in files tables)) files) (refs.circular_faults files) {A = List ℕ} {B = Found} (RanksFall (refs.references files)) (AreFound files tables) c.in_err-ranks.field-0.0 c.in_ok-library.ensures.0 spelled c.in_err-ranks.ensures)
+    rw (p.1, p.2) (stopped_third (listing_faults files tables) (flat_map (file_faults (known_in files tables)) files) (refs.circular_faults files) {A = List ℕ} {B = Found} (AreRanks (length files) (refs.references files)) (AreFound files tables) c.in_err-ranks.field-0.0 c.in_ok-library.ensures.0 spelled c.in_err-ranks.ensures)
 
 pub returns : goal.returns
 returns c =
@@ -60,7 +60,7 @@ returns c =
           stems = c.in_ok-library.ensures.1.0;
           tables_are = c.in_ok-library.ensures.1.1;
           posets_are = λ name. c.in_ok-names.ensures name ∙ ap (λ (ps : List Poset). place_of (λ (p : Poset). p.name) ps name) c.items.ensures;
-          fall = c.in_ok-ranks.ensures.1;
+          ranks_are = c.in_ok-ranks.ensures.1;
         };
       },
     )
