@@ -1,7 +1,11 @@
 mod RuleLemmas
 mod ScopeLemmas
+pub mod DeclaringLemmas
+pub mod FollowLemmas
 pub mod MarkLemmas
 pub mod NamedLemmas
 pub mod NetLemmas
+pub mod NetTypeLemmas
 pub mod PlaceLemmas
 pub mod RestLemmas
+pub mod TypedLemmas

@@ -13,7 +13,7 @@ use Rattle.name_index.specs.Places.{named_item, place_of}
 use Rattle.name_table.specs.Files.{is_design, is_interface, stem_place}
 use Rattle.name_table.specs.declared.source.SourceFile.{SourceFile}
 use Rattle.unit_check.specs.Declaring.{choice_of, declaring, file_of, named_file, next_file, params_of, part_file}
-use Rattle.unit_check.specs.FollowLaws.{follow-within}
+use Rattle.unit_check.proofs.FollowLemmas.{follow-within}
 use Rattle.unit_check.specs.Held.{part_held, sides_held}
 use Rattle.unit_check.specs.Scopes.{PartPorts, Sides, part_at}
 use Rattle.unit_check.specs.declared.scope.ScopePart.{ScopePart}
@@ -28,7 +28,7 @@ at_least {A = A} p s (x ∷ xs) k e = go (p x) (at_least p (s + 1) xs k) e
     go false later f = omega (arith, later f)
 
 -- The item at the place that is found passes.
-passes_at : {A : Type 0} (p : A → Bool) (s : ℕ) (xs : List A) (k : ℕ) (x : A) → position_from p s xs ≡ Some (k + s) → slice_get xs k ≡ Some x → p x ≡ true
+pub passes_at : {A : Type 0} (p : A → Bool) (s : ℕ) (xs : List A) (k : ℕ) (x : A) → position_from p s xs ≡ Some (k + s) → slice_get xs k ≡ Some x → p x ≡ true
 passes_at p s [] k x e got = absurd (cc)
 passes_at {A = A} p s (y ∷ ys) zero x e got = go (p y) refl e
   where

@@ -4,7 +4,7 @@ use Rattle.std.proofs.Math.Logic.{∥∥₁_elim}
 use Rattle.std.proofs.lemmas.List.{drop_more, length-set}
 use Rattle.std.proofs.lemmas.Option.{slice_get_cases, slice_get_read}
 use Rattle.std.specs.List.{flat_map}
-use Rattle.std.specs.Prelude.{Option, Some, None, Result, Err, get_or, map, option_and_then, slice_get}
+use Rattle.std.specs.Prelude.{Option, Some, None, Err, get_or, map, slice_get}
 use Rattle.design_lexer.specs.declared.tree.BodyTree.{BodyTree}
 use Rattle.design_lexer.specs.declared.tree.BodyTree.TheVariants as body
 use Rattle.design_lexer.specs.declared.tree.BranchTree.{BranchTree}
@@ -22,7 +22,7 @@ use Rattle.fault_list.specs.declared.fault.Stop.TheVariants as stop
 use Rattle.name_index.specs.Names.{number_of}
 use Rattle.name_index.specs.Places.{place_of}
 use Rattle.std.specs.Str.{bytes_eq}
-use Rattle.name_rules.specs.Sizes.{IsFew, IsSmall, IsSmallBody}
+use Rattle.name_rules.specs.Sizes.{IsSmall, IsSmallBody}
 use Rattle.name_rules.specs.Twice.{same_side}
 use Rattle.name_table.specs.Library.{AreSmall}
 use Rattle.name_table.specs.declared.source.SourceFile.{SourceFile}

@@ -1,5 +1,5 @@
 -- What scopes hold, and what is known of the ports of files.
-use Rattle.std.specs.Prelude.{◌≡◌, ◌<◌, ℕ, List, [], length, map, Option, Some, slice_get}
+use Rattle.std.specs.Prelude.{◌≡◌, ℕ, List, [], length, map, Some, slice_get}
 use Rattle.name_table.specs.declared.source.SourceFile.{SourceFile}
 use Rattle.unit_check.specs.Declaring.{tree_ports}
 use Rattle.unit_check.specs.Following.{AreDeclaring}

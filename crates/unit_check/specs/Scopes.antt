@@ -9,7 +9,6 @@ use Rattle.design_lexer.specs.declared.tree.PlaceTree.{PlaceTree}
 use Rattle.design_lexer.specs.declared.tree.PortTree.{PortTree}
 use Rattle.design_lexer.specs.declared.tree.Side.{Side}
 use Rattle.design_lexer.specs.declared.tree.Side.TheVariants.{Provides, Requires}
-use Rattle.design_model.specs.declared.expr.Expr.{Expr}
 use Rattle.design_model.specs.declared.expr.Expr.TheVariants as expr
 use Rattle.design_model.specs.declared.expr.Greater.{Greater}
 use Rattle.design_model.specs.declared.expr.Greater.TheVariants as greater

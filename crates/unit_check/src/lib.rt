@@ -4,6 +4,7 @@
 mod connected;
 mod connection;
 mod declared;
+mod laws;
 mod marks;
 mod named;
 mod places;
@@ -16,6 +17,9 @@ mod types;
 
 pub use connection::check_connected;
 pub use declared::declaring_files;
+pub use laws::{
+    choices_have_the_ports_of_their_first_branch, nets_are_typed, ports_are_typed, rules_are_typed,
+};
 pub use ports::SidePorts;
 pub use scope::{Scope, ScopePart};
 pub use shared::Shared;

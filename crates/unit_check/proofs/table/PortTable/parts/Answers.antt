@@ -1,4 +1,4 @@
-use Rattle.std.proofs.Common.{◌≡◌, ◌∙◌, ◌+◌, drop, map, List, sym}
+use Rattle.std.proofs.Common.{◌≡◌, ◌+◌, drop, map, List}
 use Rattle.std.proofs.lemmas.Result.{err_from_is_err_and}
 use Rattle.std.specs.List.{flat_map}
 use Rattle.fault_list.specs.AnswersLaws.{stopped_left}

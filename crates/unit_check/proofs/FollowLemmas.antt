@@ -12,6 +12,11 @@ follow-within next n below (suc steps) i l = at (λ j k. follow-within next n be
     at go None e = l
     at go (Some j) e = go j (below i j e)
 
+-- Where there is no next place, there is nothing to follow.
+pub follow-none : (next : ℕ → Option ℕ) (steps i : ℕ) → next i ≡ None → follow next steps i ≡ i
+follow-none next zero i e = refl
+follow-none next (suc steps) i e = ap (go_to (follow next steps) i) e
+
 module _ (next : ℕ → Option ℕ) (rank : ℕ → ℕ) (falls : Falls next rank) where
   -- With as many steps as the rank says, nothing is left to follow.
   pub follow-ends : (n i : ℕ) → rank i ≤ n → next (follow next n i) ≡ None
