@@ -85,6 +85,13 @@ ports_few (file.Interface ports) small = small
 ports_few (file.Design b) small = body_few b small
 ports_few (file.Template params b) small = body_few b small.1
 
+-- A small file has few parameters.
+pub params_few : (f : File) → IsSmall f → length (params_of f) < 2 ^ 32
+params_few (file.Poset poset) small = omega arith
+params_few (file.Interface ports) small = omega arith
+params_few (file.Design b) small = omega arith
+params_few (file.Template params b) small = small.0
+
 body_parts_few : (b : BodyTree) → IsSmallBody b → length (parts_of (file.Design b)) < 2 ^ 32
 body_parts_few (body.Catalogue ports rows table) small = omega arith
 body_parts_few (body.Choose branches) small = small
@@ -109,6 +116,9 @@ stopped_none faults whole Meant Told stop.Memory e h = tt
 -- A file is the one at its place.
 pub same_file : (files : List SourceFile) (i : ℕ) (f g : SourceFile) → slice_get files i ≡ Some f → g ≡ get_or files i g → i < length files → g ≡ f
 same_file files i f g got is inside = let other = slice_get_read files (length files) i g refl inside is in cc
+
+pub file_small : (files : List SourceFile) (i : ℕ) (f : SourceFile) → ∥ AreSmall files ∥₁ → f ≡ get_or files i f → i < length files → IsSmall f.tree
+file_small files i f small is inside = small_at files i f small (slice_get_read files (length files) i f refl inside is)
 
 -- ---- what a table has
 
@@ -148,12 +158,13 @@ module _ (files : List SourceFile) (types : Types) where
       ∙ position_mapped (λ (p : PartPorts). bytes_eq name p.name) part_held 0 made
 
   -- A scope of which these are the ports and the parts.
-  module _ (i : ℕ) (f : File) (own : SidePorts) (made : List ScopePart) (params : List ParamTree) (branches : List BranchTree) (params_are : params ≡ params_of f) (branches_are : branches ≡ parts_of f) where
-    pub scope_faultless : declared_faults files types (declaring files i) ≡ [] → flat_map (part_faults files types params) branches ≡ [] → scope_faults files types i f ≡ []
-    scope_faultless e h = (λ j. e j ++ flat_map (part_faults files types (sym params_are j)) (sym branches_are j)) ∙ h
+  module _ (i : ℕ) (f : File) (params : List ParamTree) (branches : List BranchTree) (params_are : params ≡ params_of f) (branches_are : branches ≡ parts_of f) where
+    -- Where its own ports have no fault, those of its parts are left.
+    pub scope_rest : declared_faults files types (declaring files i) ≡ [] → scope_faults files types i f ≡ flat_map (part_faults files types params) branches
+    scope_rest e = λ j. e j ++ flat_map (part_faults files types (sym params_are j)) (sym branches_are j)
 
-    pub scope_is : sides_held own ≡ sides_of types (ports_at files i) → map part_held made ≡ map (part_scope files types params) branches → record { own = sides_held own; parts = map part_held made } ≡ scope_at files types i f
-    scope_is e h = λ j. record { own = e j; parts = (h ∙ (λ k. map (part_scope files types (params_are k)) (branches_are k))) j }
+    pub scope_is : (own : SidePorts) (made : List ScopePart) → sides_held own ≡ sides_of types (ports_at files i) → map part_held made ≡ map (part_scope files types params) branches → record { own = sides_held own; parts = map part_held made } ≡ scope_at files types i f
+    scope_is own made e h = λ j. record { own = e j; parts = (h ∙ (λ k. map (part_scope files types (params_are k)) (branches_are k))) j }
 
   -- ---- the files gone through by their numbers
 

@@ -12,9 +12,9 @@ ghost use Rattle.unit_check.specs.Following.{AreDeclaring};
 ghost use Rattle.unit_check.specs.Named.{connected_by};
 ghost use Rattle.design_lexer.specs.declared.tree.Side.TheVariants.{Requires};
 
-use crate::declared::named_file;
 use crate::named::NamedPorts;
-use design_lexer::{BodyTree, BranchTree, File, NameAt, ParamTree, PortTree, Side};
+use crate::parameters::Parameters;
+use design_lexer::{BodyTree, BranchTree, File, NameAt, PortTree, Side};
 use fault_list::{Fault, FaultKind, Stop};
 use name_index::NameIndex;
 use name_table::Names;
@@ -54,12 +54,12 @@ fn unconnected(name: &NameAt) -> Stop<Fault>
 pub fn check_parts(
     names: &Names,
     declaring: &[u32],
-    params: &[ParamTree],
+    params: &Parameters,
     named: &NamedPorts,
     parts: &[BranchTree],
 ) -> Result<(), Stop<Fault>>
     requires declaring { AreDeclaring names.now.files declaring.now }
-    ensures { Answers (flat_map (λ b. fault_if (not (list_all (connected_by named.now b.name.name) (part_ports names.now.files params.now b))) (unconnected b.name)) parts.now) (λ _. Unit {0}) result }
+    ensures { Answers (flat_map (λ b. fault_if (not (list_all (connected_by named.now b.name.name) (part_ports names.now.files params.now.trees.now b))) (unconnected b.name)) parts.now) (λ _. Unit {0}) result }
 {
     for part in parts {
         let ports = part_ports(names, declaring, params, part);
@@ -110,13 +110,13 @@ fn has(marks: &[NameIndex], number: Option<u32>, name: &str) -> bool
 pub fn part_ports<'a>(
     names: &'a Names,
     declaring: &[u32],
-    params: &[ParamTree],
+    params: &Parameters,
     part: &BranchTree,
 ) -> &'a [PortTree]
     requires declaring { AreDeclaring names.now.files declaring.now }
-    ensures { result.now ≡ part_ports names.now.files params.now part.now }
+    ensures { result.now ≡ part_ports names.now.files params.now.trees.now part.now }
 {
-    match named_file(names, params, part.reference.name.name.as_str()) {
+    match params.file(names, part.reference.name.name.as_str()) {
         Some(file) => ports_at(names, declaring, file),
         None => &[],
     }

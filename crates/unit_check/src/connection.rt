@@ -9,6 +9,7 @@ ghost use Rattle.unit_check.specs.Following.{AreDeclaring};
 use crate::connected::{check_own, check_parts};
 use crate::declared::declaring_files;
 use crate::named::named_ports;
+use crate::parameters::Parameters;
 use design_lexer::{BodyTree, BranchTree, File, ParamTree, PortTree, RuleTree};
 use fault_list::{Fault, StageFault, Stop, in_file};
 use name_table::{Names, SourceFile};
@@ -71,6 +72,7 @@ fn check_body(
     body: &BodyTree,
 ) -> Result<(), Stop<Fault>>
     requires declaring { AreDeclaring names.now.files declaring.now }
+    requires few { length params.now < 2 ^ 32 }
     requires small { IsSmallBody body.now }
     ensures { Answers (body_unconnected names.now.files params.now body.now) (λ _. Unit {0}) result }
 {
@@ -103,10 +105,12 @@ fn check_net(
     rules: &[RuleTree],
 ) -> Result<(), Stop<Fault>>
     requires declaring { AreDeclaring names.now.files declaring.now }
-    requires few { length parts.now < 2 ^ 32 }
+    requires few_params { length params.now < 2 ^ 32 }
+    requires few_parts { length parts.now < 2 ^ 32 }
     ensures { Answers (flat_map (own_unconnected rules.now) ports.now ++ flat_map (part_unconnected names.now.files params.now rules.now) parts.now) (λ _. Unit {0}) result }
 {
     let named = named_ports(alloc, parts, rules)?;
     check_own(&named.own, ports)?;
-    check_parts(names, declaring, params, &named, parts)
+    let params = Parameters::of(alloc, params)?;
+    check_parts(names, declaring, &params, &named, parts)
 }

@@ -84,7 +84,7 @@ fn branch_file(names: &Names, params: &[ParamTree], branch: Option<&BranchTree>)
 
 /// The file that a name stands for among parameters: the interface of the one that has it, or else the design or
 /// template of this name.
-pub fn named_file(names: &Names, params: &[ParamTree], name: &str) -> Option<u32>
+fn named_file(names: &Names, params: &[ParamTree], name: &str) -> Option<u32>
     ensures { result ≡ named_file names.now.files params.now name.now }
 {
     for param in params {

@@ -7,6 +7,7 @@ mod declared;
 mod laws;
 mod marks;
 mod named;
+mod parameters;
 mod places;
 mod ports;
 mod rules;

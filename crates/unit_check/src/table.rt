@@ -13,7 +13,8 @@ ghost use Rattle.unit_check.specs.Scopes.{part_scope, scope_at, sides_of};
 ghost use Rattle.unit_check.specs.TypeFaults.{declared_faults, file_port_faults, part_faults, scope_faults};
 
 use crate::connected::ports_in;
-use crate::declared::{declaring_files, named_file};
+use crate::declared::declaring_files;
+use crate::parameters::Parameters;
 use crate::ports::{SidePorts, side_ports};
 use crate::scope::{Scope, ScopePart};
 use crate::shared::Shared;
@@ -105,14 +106,14 @@ impl PortTable {
         &mut self,
         alloc: Global,
         names: &Names,
-        params: &[ParamTree],
+        params: &Parameters,
         part: &BranchTree,
     ) -> Result<Shared<SidePorts>, StageFault>
         requires table { IsTable names.now.files names.now.types self.old }
         ensures table { IsTable names.now.files names.now.types self.new }
-        ensures answer { Answers (part_faults names.now.files names.now.types params.now part.now) (λ ports. sides_held ports ≡ sides_of names.now.types (spec.part_ports names.now.files params.now part.now)) result }
+        ensures answer { Answers (part_faults names.now.files names.now.types params.now.trees.now part.now) (λ ports. sides_held ports ≡ sides_of names.now.types (spec.part_ports names.now.files params.now.trees.now part.now)) result }
     {
-        match named_file(names, params, part.reference.name.name.as_str()) {
+        match params.file(names, part.reference.name.name.as_str()) {
             Some(file) => self.ports(alloc, names, file),
             None => Ok(no_ports(alloc)?),
         }
@@ -123,12 +124,12 @@ impl PortTable {
         &mut self,
         alloc: Global,
         names: &Names,
-        params: &[ParamTree],
+        params: &Parameters,
         parts: &[BranchTree],
     ) -> Result<List<ScopePart>, StageFault>
         requires table { IsTable names.now.files names.now.types self.old }
         ensures table { IsTable names.now.files names.now.types self.new }
-        ensures answer { Answers (flat_map (part_faults names.now.files names.now.types params.now) parts.now) (λ made. map part_held made ≡ map (part_scope names.now.files names.now.types params.now) parts.now) result }
+        ensures answer { Answers (flat_map (part_faults names.now.files names.now.types params.now.trees.now) parts.now) (λ made. map part_held made ≡ map (part_scope names.now.files names.now.types params.now.trees.now) parts.now) result }
     {
         let mut made = Vec::new(alloc);
         for part in parts {
@@ -148,7 +149,8 @@ impl PortTable {
     {
         let tree = &names.files.items()[file as usize].tree;
         let own = self.ports(alloc, names, file)?;
-        let parts = self.parts(alloc, names, params_of(tree), parts_of(tree))?;
+        let params = Parameters::of(alloc, params_of(tree))?;
+        let parts = self.parts(alloc, names, &params, parts_of(tree))?;
         let numbers = places_of(alloc, parts_of(tree))?;
         Ok(Scope {
             own,

@@ -11,9 +11,10 @@ returns c =
     let parts = c.args.parts.now in
     let rules = c.args.rules.now in
     let files = c.args.names.now.files in
-    let params = c.args.params.now in
+    let params = c.in_ok-params.params.trees.now in
+    let same = c.in_ok-params.ensures in
     let named = c.in_ok-named.named in
     let tells = c.in_ok-named.ensures in
-    let rest = flat_map (part_unconnected files params rules) parts in
+    let rest = flat_map (part_unconnected files c.args.params.now rules) parts in
     let own = sym (own_same parts rules named tells c.args.ports.now) ∙ c.in_ok-check_own.ensures.0 in
-    answers_weaker _ _ _ _ c.check_parts.result (parts_same parts rules named tells files params ∙ sym (ap (λ (fs : List Fault). fs ++ rest) own)) (λ x h. h) c.check_parts.ensures
+    answers_weaker _ _ _ _ c.check_parts.result (parts_same parts rules named tells files params ∙ (λ i. flat_map (part_unconnected files (same i) rules) parts) ∙ sym (ap (λ (fs : List Fault). fs ++ rest) own)) (λ x h. h) c.check_parts.ensures

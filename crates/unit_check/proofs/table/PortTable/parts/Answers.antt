@@ -15,7 +15,7 @@ pub returns-in_err-ports-clause-answer : goal.returns-in_err-ports-clause-answer
 returns-in_err-ports-clause-answer c =
     let files = c.args.names.now.files in
     let types = c.args.names.now.types in
-    let params = c.args.params.now in
+    let params = c.args.params.now.trees.now in
     let parts = c.args.parts.now in
     let i = c.loop-part.part-index in
     let part = c.part-item.result in
@@ -29,7 +29,7 @@ pub loop-part-preserved : goal.loop-part-preserved
 loop-part-preserved c =
     let files = c.args.names.now.files in
     let types = c.args.names.now.types in
-    let params = c.args.params.now in
+    let params = c.args.params.now.trees.now in
     let parts = c.args.parts.now in
     let i = c.loop-part.part-index in
     let part = c.part-item.result in

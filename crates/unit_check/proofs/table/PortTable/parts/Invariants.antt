@@ -9,5 +9,5 @@ use Rattle.unit_check.proofs.table.PortTable.parts.Given as goal
 abbrev pub invariant-loop-part : goal.invariant-loop-part
 invariant-loop-part l =
     IsTable l.names.files l.names.types l.self
-    × (flat_map (part_faults l.names.files l.names.types l.params) l.parts ≡ flat_map (part_faults l.names.files l.names.types l.params) (drop l.part-index l.parts))
-    × (map (part_scope l.names.files l.names.types l.params) l.parts ≡ map part_held l.made.items ++ map (part_scope l.names.files l.names.types l.params) (drop l.part-index l.parts))
+    × (flat_map (part_faults l.names.files l.names.types l.params.trees.now) l.parts ≡ flat_map (part_faults l.names.files l.names.types l.params.trees.now) (drop l.part-index l.parts))
+    × (map (part_scope l.names.files l.names.types l.params.trees.now) l.parts ≡ map part_held l.made.items ++ map (part_scope l.names.files l.names.types l.params.trees.now) (drop l.part-index l.parts))
