@@ -2,6 +2,8 @@ mod RuleLemmas
 mod ScopeLemmas
 pub mod DeclaringLemmas
 pub mod FollowLemmas
+pub mod KnownExprLemmas
+pub mod KnownTypeLemmas
 pub mod MarkLemmas
 pub mod NamedLemmas
 pub mod NetLemmas
@@ -9,3 +11,4 @@ pub mod NetTypeLemmas
 pub mod PlaceLemmas
 pub mod RestLemmas
 pub mod TypedLemmas
+pub mod UnknownLemmas

@@ -31,7 +31,7 @@ use Rattle.order_core.specs.PointwiseLaws.{pointwise_length}
 use Rattle.tree_units.specs.Ports.{all_posets, port_of, poset_step}
 use Rattle.tree_units.specs.Posets.{poset_place}
 use Rattle.unit_check.proofs.ScopeLemmas.{parts_few, ports_few, side_few, small_at}
-use Rattle.unit_check.proofs.TypedLemmas.{none_right}
+use Rattle.unit_check.proofs.RestLemmas.{none_right}
 use Rattle.unit_check.specs.Constraints.{FitParts, constraint_by, constraint_of, constraints_of, scope_wiring}
 use Rattle.unit_check.specs.Declaring.{declaring, params_of, parts_of, ports_at, tree_ports}
 use Rattle.unit_check.specs.Scopes.{PartPorts, ScopePorts, Target, if_there, part_scope, scope_at, side_ports}

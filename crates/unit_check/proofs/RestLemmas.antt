@@ -5,6 +5,11 @@ use Rattle.std.specs.List.{flat_map}
 use Rattle.std.specs.Prelude.{Some}
 use Rattle.fault_list.specs.Faults.{first_fault}
 
+-- Where two lists have nothing together, the second has nothing.
+pub none_right : {A : Type 0} (xs ys : List A) → xs ++ ys ≡ [] → ys ≡ []
+none_right [] ys e = e
+none_right (x ∷ xs) ys e = absurd (cc)
+
 module _ {A F : Type 0} (faults : A → List F) (items : List A) (i : ℕ) (x : A) (inside : i < length items) (is : x ≡ get_or items i x) (whole : List F) (left : whole ≡ flat_map faults (drop i items)) where
   pub rest_next : whole ≡ faults x ++ flat_map faults (drop (i + 1) items)
   rest_next = left ∙ ap (flat_map faults) (drop_more items i x inside ∙ ap (λ (y : A). y ∷ drop (i + 1) items) (sym is))

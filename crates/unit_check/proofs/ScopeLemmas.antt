@@ -32,6 +32,7 @@ use Rattle.order_core.specs.PointwiseLaws.{each_got}
 use Rattle.tree_units.specs.Ports.{port_of}
 use Rattle.unit_check.proofs.NetLemmas.{small_prop}
 use Rattle.unit_check.proofs.PlaceLemmas.{position_mapped}
+use Rattle.unit_check.proofs.RestLemmas.{none_right}
 use Rattle.unit_check.specs.Declaring.{declaring, params_of, part_file, parts_of, ports_at, ports_in, tree_ports}
 use Rattle.unit_check.specs.Following.{AreDeclaring}
 use Rattle.unit_check.specs.Held.{IsKnown, IsTable, part_held, sides_held}
@@ -188,11 +189,7 @@ module _ (files : List SourceFile) (types : Types) where
   none_member : {A F : Type 0} (faults : A → List F) (xs : List A) (x : A) → flat_map faults xs ≡ [] → IsMember x xs → faults x ≡ []
   none_member faults [] x e m = absurd m
   none_member {F = F} faults (y ∷ ys) x e (inl is) = subst (λ z. faults z ≡ []) (sym is) (none_left (faults y) (flat_map faults ys) e)
-  none_member faults (y ∷ ys) x e (inr m) = none_member faults ys x (rest (faults y) e) m
-    where
-      rest : (first : List _) → first ++ flat_map faults ys ≡ [] → flat_map faults ys ≡ []
-      rest [] h = h
-      rest (z ∷ zs) h = absurd (cc)
+  none_member faults (y ∷ ys) x e (inr m) = none_member faults ys x (none_right (faults y) (flat_map faults ys) e) m
 
   module _ (none : flat_map (file_port_faults types) files ≡ []) where
     declared_none : (i : ℕ) → declared_faults files types i ≡ []

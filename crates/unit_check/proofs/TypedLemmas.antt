@@ -22,6 +22,7 @@ use Rattle.fault_list.specs.Faults.{fault_if, fault_unless}
 use Rattle.fault_list.specs.declared.fault.Fault.{Fault}
 use Rattle.name_index.specs.Places.{place_of}
 use Rattle.order_core.specs.Pointwise.{Each}
+use Rattle.unit_check.proofs.RestLemmas.{none_right}
 use Rattle.unit_check.specs.Constraints.{constraint_by, constraint_of, constraints_of, scope_wiring}
 use Rattle.unit_check.specs.Rules.{rule_faults, rules_faults, side_faults, sides_differ}
 use Rattle.unit_check.specs.Scopes.{PartPorts, ScopePorts, Sides, Target, inner_read, inner_target, own_read, own_target, part_at, port_at, readable, readable_by, target, target_by}
@@ -31,10 +32,6 @@ use Rattle.value_type.specs.SameFormLaws.{same_form_itself, same_kind_is}
 use Rattle.value_type.specs.declared.kind.Kind.{Kind}
 use Rattle.value_type.specs.declared.port.Port.{Port}
 use Rattle.value_type.specs.declared.poset.Types.{Types}
-
-pub none_right : {F : Type 0} (xs ys : List F) → xs ++ ys ≡ [] → ys ≡ []
-none_right [] ys e = e
-none_right (x ∷ xs) ys e = absurd (cc)
 
 -- A port that is found has its number and its type.
 port_found : (ports : List Port) (name : List ℕ) (p : ℕ × Kind) → port_at ports name ≡ Some p → slice_get (port_kinds ports) p.0 ≡ Some p.1

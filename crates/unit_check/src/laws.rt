@@ -12,8 +12,11 @@ ghost use Rattle.design_model.specs.Typed.{ConstraintIsTyped, IsTyped, is_port};
 ghost use Rattle.design_model.specs.declared.design.Design.TheVariants as design;
 ghost use Rattle.design_model.specs.declared.design.Part.{Part};
 ghost use Rattle.design_model.specs.declared.expr.Constraint.{Constraint};
+ghost use Rattle.fault_list.specs.declared.fault.FaultKind.TheVariants.{Unknown};
+ghost use Rattle.fault_list.specs.declared.fault.FileFault.{FileFault};
 ghost use Rattle.name_table.specs.declared.source.SourceFile.{SourceFile};
 ghost use Rattle.name_rules.specs.Twice.{same_side};
+ghost use Rattle.order_core.specs.Members.{IsMember};
 ghost use Rattle.order_core.specs.Pointwise.{Each, Pointwise};
 ghost use Rattle.tree_units.specs.Ports.{port_faults, port_of};
 ghost use Rattle.tree_units.specs.Posets.{poset_place};
@@ -21,7 +24,7 @@ ghost use Rattle.unit_check.specs.Constraints.{FitParts, constraint_of, constrai
 ghost use Rattle.unit_check.specs.Declaring.{choice_of, declaring, next_file, ports_at, ports_in};
 ghost use Rattle.unit_check.specs.Rules.{rule_faults, rules_faults};
 ghost use Rattle.unit_check.specs.Scopes.{ScopePorts, scope_at, side_ports};
-ghost use Rattle.unit_check.specs.TypeFaults.{rules_of};
+ghost use Rattle.unit_check.specs.TypeFaults.{rules_of, type_faults};
 ghost use Rattle.value_type.specs.Types.{AreNamed};
 ghost use Rattle.value_type.specs.declared.poset.Types.{Types};
 
@@ -67,4 +70,12 @@ pub fn nets_are_typed(names: &Names)
     let _names = names;
     rules_are_typed();
     ports_are_whole();
+}
+
+/// In a library whose names are in order no name in a type or an expression leads nowhere, so no fault of its types is
+/// `Unknown`.
+pub fn names_leave_nothing_unknown(names: &Names)
+    ensures { (fault : FileFault) → IsMember fault (type_faults names.now.files names.now.types) → fault.kind ≡ Unknown → ⊥ }
+{
+    let _names = names;
 }

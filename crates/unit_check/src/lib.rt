@@ -19,7 +19,8 @@ mod types;
 pub use connection::check_connected;
 pub use declared::declaring_files;
 pub use laws::{
-    choices_have_the_ports_of_their_first_branch, nets_are_typed, ports_are_typed, rules_are_typed,
+    choices_have_the_ports_of_their_first_branch, names_leave_nothing_unknown, nets_are_typed,
+    ports_are_typed, rules_are_typed,
 };
 pub use ports::SidePorts;
 pub use scope::{Scope, ScopePart};
