@@ -93,11 +93,14 @@ element_decided types poset element =
     go (Some x) = record { there = λ e. (x, refl); faultless = λ y e. refl }
     go None = record { there = λ e. absurd (cc); faultless = λ y e. absurd (cc) }
 
+-- Elements have numbers exactly where none of them is unknown.
+pub elements_decided : (p : Poset) (elements : List NameAt) → IsDecided (unknown_elements p elements) (elements_named p elements)
+elements_decided p elements =
+    all_decided (λ name. fault_unless (element_place p name.name) (unknown name)) (λ name. element_place p name.name) elements
+    (each_made _ elements (λ name m. sure (element_place p name.name) (unknown name)))
+
 upper_decided : (types : Types) (poset : NameAt) (elements : List NameAt) → IsDecidedRead (upper_read types poset elements)
-upper_decided types poset elements =
-    made meaning.Expression _ _ (literal_decided types poset elements (upper_in elements) (λ k p. made _ _ (elements_named p elements)
-    (all_decided (λ name. fault_unless (element_place p name.name) (unknown name)) (λ name. element_place p name.name) elements
-    (each_made _ elements (λ name m. sure (element_place p name.name) (unknown name))))))
+upper_decided types poset elements = made meaning.Expression _ _ (literal_decided types poset elements (upper_in elements) (λ k p. made _ _ (elements_named p elements) (elements_decided p elements)))
 
 -- An operator is decided where its operands are, and it is for operands that have a meaning.
 operator_decided : (faults : Meaning → Meaning → List Fault) (value : Meaning → Meaning → Option Meaning) → ((a b : Meaning) → IsDecided (faults a b) (value a b))

@@ -11,6 +11,7 @@ use design_lexer::NameAt;
 use design_model::Expr;
 use fault_list::{Fault, FaultKind, Stop};
 use name_index::NameIndex;
+use order_core::List;
 use std::alloc::Global;
 use value_type::{Kind, Poset, Types, Value};
 
@@ -41,8 +42,8 @@ fn unknown(name: &NameAt) -> Fault
     }
 }
 
-/// The number of the first element of this name.
-fn element_place(poset: &Poset, name: &str) -> Option<u32>
+/// The number of the first element of this name in the poset.
+pub fn element_place(poset: &Poset, name: &str) -> Option<u32>
     requires { IsTrue (has_names poset.now) }
     ensures { result ≡ element_place poset.now name.now }
 {
@@ -75,10 +76,14 @@ pub fn element_of(
     }
 }
 
-/// The numbers of the elements named.
-fn elements_named(alloc: Global, poset: &Poset, names: &[NameAt]) -> Result<Vec<u32>, Stop<Fault>>
+/// The numbers of the elements named, or the first name that no element of the poset has.
+pub fn elements_named(
+    alloc: Global,
+    poset: &Poset,
+    names: &[NameAt],
+) -> Result<List<u32>, Stop<Fault>>
     requires { IsTrue (has_names poset.now) }
-    ensures { Answers (unknown_elements poset.now names.now) (λ made. Some made.items ≡ elements_named poset.now names.now) result }
+    ensures { Answers (unknown_elements poset.now names.now) (λ made. Some made ≡ elements_named poset.now names.now) result }
 {
     let mut numbers = Vec::new(alloc);
     for name in names {
@@ -87,7 +92,7 @@ fn elements_named(alloc: Global, poset: &Poset, names: &[NameAt]) -> Result<Vec<
         };
         numbers.push(number)?;
     }
-    Ok(numbers)
+    Ok(List::of(numbers))
 }
 
 /// The upper set of the elements that a literal names, and the type of the poset's upper sets.
@@ -104,7 +109,7 @@ pub fn upper_of(
 {
     let (number, found) = poset_named(types, posets, poset)?;
     let numbers = elements_named(alloc, found, elements)?;
-    let members = found.order.minimal_of(alloc, numbers.as_slice())?;
+    let members = found.order.minimal_of(alloc, numbers.items())?;
     Ok(Lower {
         kind: Kind::Up(number),
         expr: Expr::Constant(Value::Up(members)),

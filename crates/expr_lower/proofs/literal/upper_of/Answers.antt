@@ -13,5 +13,5 @@ pub minimal_of-requires : goal.minimal_of-requires
 minimal_of-requires c =
     let named : IsTrue (has_names c.in_ok-number.found.now) =
     all_got has_names c.args.types.now.posets c.in_ok-number.number c.in_ok-number.found.now c.in_ok-number.ensures.1.1 c.requires.types.names in
-    subst (λ (xs : List ℕ). IsTrue (list_all (is_element c.in_ok-number.found.now.order.table) xs)) (sym c.as_slice.ensures.value)
-    (elements_are c.in_ok-number.found.now named c.args.elements.now c.in_ok-numbers.numbers.items (sym c.in_ok-numbers.ensures.1))
+    subst (λ (xs : List ℕ). IsTrue (list_all (is_element c.in_ok-number.found.now.order.table) xs)) (sym c.items.ensures)
+    (elements_are c.in_ok-number.found.now named c.args.elements.now c.in_ok-numbers.numbers (sym c.in_ok-numbers.ensures.1))
