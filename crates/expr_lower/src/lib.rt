@@ -11,8 +11,6 @@ mod operand;
 mod operator;
 mod parts;
 mod ports;
-#[cfg(test)]
-mod tests;
 
 pub use expr::place_of;
 pub use laws::{

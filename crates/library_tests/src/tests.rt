@@ -1,4 +1,8 @@
+mod library;
 mod names;
+mod scopes;
+mod stages;
+mod types;
 
 use design_lexer::lex;
 use design_parser::{FileKind, parse_file};

@@ -1,17 +1,8 @@
-use design_lexer::lex;
-use design_parser::{FileKind, parse_file};
-use fault_list::{FaultKind, StageFault, Stop};
-use name_table::{Names, SourceFile, Table, are_small, build};
-use order_core::{List, Text};
+use super::library::{Listed, Wanted, built, is_wanted};
+use fault_list::{FaultKind, StageFault};
 use std::alloc::Global;
 use std::test::Fail;
 use unit_check::check_connected;
-
-/// The name of a file, and its text.
-type Listed = (&'static str, &'static [u8]);
-
-/// A fault: its file, its kind and its place.
-type Wanted = (&'static str, FaultKind, u64);
 
 /// Files that others refer to.
 const SHELF: [Listed; 5] = [
@@ -433,72 +424,6 @@ const SIXTY_FOUR: &[u8] =
 
 const SIXTY_FIVE: &[u8] =
     b"poset { elements e0, e1, e2, e3, e4, e5, e6, e7, e8, e9, e10, e11, e12, e13, e14, e15, e16, e17, e18, e19, e20, e21, e22, e23, e24, e25, e26, e27, e28, e29, e30, e31, e32, e33, e34, e35, e36, e37, e38, e39, e40, e41, e42, e43, e44, e45, e46, e47, e48, e49, e50, e51, e52, e53, e54, e55, e56, e57, e58, e59, e60, e61, e62, e63, e64; }";
-
-/// The kind that the ending of a name says, if it isn't that of a table, and the length of the ending.
-fn kind_of(name: &str) -> (Option<FileKind>, usize) {
-    if name.ends_with(".poset") {
-        (Some(FileKind::Poset), 6)
-    } else if name.ends_with(".interface") {
-        (Some(FileKind::Interface), 10)
-    } else if name.ends_with(".mcdp") {
-        (Some(FileKind::Design), 5)
-    } else if name.ends_with(".template") {
-        (Some(FileKind::Template), 9)
-    } else {
-        (None, 4)
-    }
-}
-
-fn text_of(alloc: Global, text: &str) -> Option<Text> {
-    Some(Text::of(String::from_str(alloc, text).ok()?))
-}
-
-/// Adds the file to those of its kind.
-fn add(
-    alloc: Global,
-    (name, text): Listed,
-    files: &mut Vec<SourceFile>,
-    tables: &mut Vec<Table>,
-) -> Option<()> {
-    let (kind, ending) = kind_of(name);
-    let stem = text_of(alloc, name.get(..name.len().checked_sub(ending)?)?)?;
-    let name = text_of(alloc, name)?;
-    match kind {
-        None => {
-            let bytes = List::of(Vec::new(alloc));
-            tables.push(Table { name, stem, bytes }).ok()
-        }
-        Some(kind) => {
-            let tokens = lex(alloc, text).ok()?;
-            let tree = parse_file(alloc, kind, text, &tokens).ok()?;
-            files.push(SourceFile { name, stem, tree }).ok()
-        }
-    }
-}
-
-/// What `build` answers for the files. None where a text can't be read.
-fn built(alloc: Global, listed: &[Listed]) -> Option<Result<Names, StageFault>> {
-    let mut files = Vec::new(alloc);
-    let mut tables = Vec::new(alloc);
-    for file in listed {
-        add(alloc, *file, &mut files, &mut tables)?;
-    }
-    if files.len() > 1000 || tables.len() > 1000 || !are_small(files.as_slice()) {
-        return None;
-    }
-    Some(build(alloc, List::of(files), List::of(tables)))
-}
-
-/// Whether the answer is the fault, or none where none is wanted.
-fn is_wanted<T: Drop>(answer: Option<Result<T, StageFault>>, want: Option<Wanted>) -> bool {
-    match (answer, want) {
-        (Some(Ok(_)), None) => true,
-        (Some(Err(Stop::At(fault))), Some((file, kind, at))) => {
-            fault.file.as_str() == file && fault.kind == kind && fault.at == at
-        }
-        _ => false,
-    }
-}
 
 #[test]
 fn names_are_in_order_or_the_first_fault_is_found(rt: HostRuntime) -> Result<(), Fail> {
