@@ -1,0 +1,5 @@
+//! Tests of rows and tables, over texts that the parser has read.
+#![tactic(auto)]
+
+#[cfg(test)]
+mod tests;
