@@ -1,3 +1,5 @@
+ghost use Rattle.value_type.specs.Types.{AreNamed};
+
 use design_lexer::{BodyTree, File, PortTree, RowTree, Side, lex};
 use design_model::CatRow;
 use design_parser::{FileKind, parse_file};
@@ -191,7 +193,10 @@ fn ports_of(alloc: Global, trees: &[PortTree]) -> Option<Ports> {
     Some(ports)
 }
 
-fn no_posets(alloc: Global) -> Types {
+/// The types of a library without posets.
+fn no_posets(alloc: Global) -> Types
+    ensures { AreNamed result }
+{
     Types {
         posets: List::of(Vec::new(alloc)),
     }
