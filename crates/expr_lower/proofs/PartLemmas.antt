@@ -1,14 +1,14 @@
 -- One part further in a tuple.
-use Rattle.std.proofs.Common.{◌≡◌, ◌∙◌, ◌<◌, ◌+◌, refl, sym, ap, subst, arith, append_assoc, ℕ, List, [], ◌∷◌, ◌++◌, drop, get_or, length, map}
+use Rattle.std.proofs.Common.{◌≡◌, ◌∙◌, ◌<◌, ◌+◌, sym, ap, subst, ℕ, List, [], ◌∷◌, ◌++◌, drop, get_or, length, map}
 use Rattle.std.proofs.lemmas.List.{drop_more}
-use Rattle.std.specs.Prelude.{Option, Some, None, option_map}
+use Rattle.std.specs.Prelude.{Option, option_map}
 use Rattle.design_lexer.specs.declared.tree.ExprTree.{ExprTree}
 use Rattle.design_lexer.specs.declared.tree.PlaceTree.{PlaceTree}
 use Rattle.expr_lower.specs.Meanings.{lowered}
 use Rattle.expr_lower.specs.Reading.{Reading, faultless, lowered_parts, part_faults, reading}
-use Rattle.expr_lower.specs.Together.{with_first}
 use Rattle.expr_lower.specs.declared.meaning.Lower.{Lower}
 use Rattle.expr_lower.specs.declared.meaning.Operand.{Operand}
+use Rattle.tree_units.specs.TogetherLaws.{put_last}
 use Rattle.value_type.specs.declared.poset.Types.{Types}
 
 -- The faults of the parts that are left are all faults, and what they are lowered to, after what the others are, is all.
@@ -16,13 +16,9 @@ pub record PartsLeft (parts left : List Reading) (made : List Lower) : Type 0 wh
   pub faults : part_faults parts ≡ part_faults left
   pub lowers : lowered_parts parts ≡ option_map (λ ls. made ++ ls) (lowered_parts left)
 
-moved : (made : List Lower) (l : Lower) (rest : Option (List Lower)) → option_map (λ ls. made ++ ls) (with_first (Some l) rest) ≡ option_map (λ ls. (made ++ l ∷ []) ++ ls) rest
-moved made l None = refl
-moved made l (Some ls) = ap (λ (xs : List Lower). Some xs) (grind (arith, append_assoc))
-
 -- A part that has a meaning is added to what is made.
 part_added : (parts left : List Reading) (made : List Lower) (part : Operand) → PartsLeft parts (faultless part ∷ left) made → PartsLeft parts left (made ++ lowered part.meaning ∷ [])
-part_added parts left made part h = record { faults = h.faults; lowers = h.lowers ∙ moved made (lowered part.meaning) (lowered_parts left) }
+part_added parts left made part h = record { faults = h.faults; lowers = h.lowers ∙ put_last made (lowered part.meaning) (lowered_parts left) }
 
 module _ (types : Types) (ports : PlaceTree → Option Lower) (parts : List ExprTree) (i : ℕ) (x : ExprTree) (inside : i < length parts) (is : x ≡ get_or parts i x) where
   pub part_next : (made next : List Lower) (part : Operand) (l : Lower) → reading types ports x ≡ faultless part → l ≡ lowered part.meaning → next ≡ made ++ l ∷ []

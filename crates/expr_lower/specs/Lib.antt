@@ -1,5 +1,4 @@
 -- Read Reading first: what an expression is read as, and its faults. Modules whose names end in Laws hold lemmas.
-pub mod LiteralLaws
 pub mod Literals
 pub mod MeaningLaws
 pub mod Meanings
@@ -7,5 +6,4 @@ pub mod Operands
 pub mod Operators
 pub mod Reading
 pub mod ReadingLaws
-pub mod Together
 pub mod TypedLaws

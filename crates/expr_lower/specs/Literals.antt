@@ -1,15 +1,11 @@
 -- Elements and upper sets of posets, as a text names them.
-use Rattle.std.specs.Prelude.{ℕ, List, [], ◌∷◌, Option, Some, None, map, option_and_then, option_map, slice_get}
-use Rattle.std.specs.List.{flat_map, position_from}
-use Rattle.std.specs.Str.{bytes_eq}
+use Rattle.std.specs.Prelude.{ℕ, List, [], ◌∷◌, Option, Some, None, option_and_then, option_map, slice_get}
 use Rattle.design_lexer.specs.declared.tree.NameAt.{NameAt}
 use Rattle.design_model.specs.declared.expr.Expr.TheVariants as expr
-use Rattle.expr_lower.specs.Together.{together}
 use Rattle.expr_lower.specs.declared.meaning.Lower.{Lower}
-use Rattle.fault_list.specs.Faults.{fault_unless}
 use Rattle.fault_list.specs.declared.fault.Fault.{Fault}
-use Rattle.fault_list.specs.declared.fault.FaultKind.TheVariants.{Unknown}
 use Rattle.order_core.specs.MinimalElements.{minimal_of}
+use Rattle.tree_units.specs.Elements.{element_place, elements_named, unknown, unknown_elements}
 use Rattle.tree_units.specs.Posets.{poset_place}
 use Rattle.value_type.specs.declared.kind.Kind.TheVariants as kind
 use Rattle.value_type.specs.declared.poset.Poset.{Poset}
@@ -19,18 +15,6 @@ use Rattle.value_type.specs.declared.value.Value.TheVariants as value
 -- the poset of this name
 abbrev pub poset_named : Types → List ℕ → Option Poset
 poset_named types name = option_and_then (slice_get types.posets) (poset_place types name)
-
--- the number of the first element of this name
-abbrev pub element_place : Poset → List ℕ → Option ℕ
-element_place poset name = position_from (λ n. bytes_eq name n) 0 poset.elements
-
--- The name leads nowhere.
-abbrev pub unknown : NameAt → Fault
-unknown name = record { kind = Unknown; at = name.at }
-
--- the names that no element of the poset has
-abbrev pub unknown_elements : Poset → List NameAt → List Fault
-unknown_elements poset names = flat_map (λ name. fault_unless (element_place poset name.name) (unknown name)) names
 
 -- The poset isn't there, or of one that is there some elements aren't.
 abbrev pub unknown_names : NameAt → Option Poset → List NameAt → List Fault
@@ -52,10 +36,6 @@ element_in name k poset = option_map (λ x. record { kind = kind.Fin k; expr = e
 -- the element that a literal names, if it is there
 abbrev pub element_of : Types → NameAt → NameAt → Option Lower
 element_of types poset element = of_poset types poset.name (element_in element.name)
-
--- the numbers of the elements named, if each is there
-abbrev pub elements_named : Poset → List NameAt → Option (List ℕ)
-elements_named poset names = together (map (λ name. element_place poset name.name) names)
 
 -- the upper set of the elements named, as an expression of the type of the poset's upper sets
 abbrev pub upper_in : List NameAt → ℕ → Poset → Option Lower

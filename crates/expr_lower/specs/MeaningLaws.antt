@@ -1,6 +1,5 @@
 -- Expressions have meanings exactly where they have no faults.
-use Rattle.std.proofs.Common.{◌≡◌, refl, sym, subst, ℕ, Bool, true, false, List, [], ◌∷◌, ◌++◌}
-use Rattle.std.specs.List.{flat_map}
+use Rattle.std.proofs.Common.{refl, sym, subst, ℕ, Bool, true, false, List, [], ◌∷◌, ◌++◌}
 use Rattle.std.specs.Prelude.{cond, map, not, Option, Some, None, option_and_then, option_map, slice_get}
 use Rattle.design_lexer.specs.declared.tree.ConstantTree.{ConstantTree}
 use Rattle.design_lexer.specs.declared.tree.ExprTree.{ExprTree, map-ExprTree, roll-ExprTree}
@@ -11,67 +10,38 @@ use Rattle.design_lexer.specs.declared.tree.NameAt.{NameAt}
 use Rattle.design_lexer.specs.declared.tree.PlaceTree.{PlaceTree}
 use Rattle.design_model.specs.declared.expr.Expr.{Expr}
 use Rattle.design_model.specs.declared.expr.Expr.TheVariants as expr
-use Rattle.expr_lower.specs.Literals.{element_in, element_place, elements_named, literal_faults, of_poset, unknown, unknown_elements, unknown_names, upper_in}
-use Rattle.tree_units.specs.Posets.{poset_place}
+use Rattle.expr_lower.specs.Literals.{element_in, literal_faults, of_poset, unknown_names, upper_in}
 use Rattle.expr_lower.specs.Meanings.{common_dim, dimension, dims_product, joining_of, lowered, times}
 use Rattle.expr_lower.specs.Operands.{exponent_faults, joining_faults, mismatch, times_faults, unlike_dims}
 use Rattle.expr_lower.specs.Reading.{Reading, constant_read, element_read, faults_of_both, joining_read, meaning_of_both, port_read, product_read, reading, tuple_of, tuple_read, upper_read}
 use Rattle.expr_lower.specs.ReadingLaws.{reading-Constant, reading-Element, reading-Greatest, reading-Lesser, reading-Place, reading-Product, reading-Sum, reading-Tuple, reading-Upper}
-use Rattle.expr_lower.specs.Together.{together, with_first}
 use Rattle.expr_lower.specs.declared.meaning.Lower.{Lower}
 use Rattle.expr_lower.specs.declared.meaning.Meaning.{Meaning}
 use Rattle.expr_lower.specs.declared.meaning.Meaning.TheVariants as meaning
 use Rattle.fault_list.specs.Faults.{fault_if, fault_unless}
 use Rattle.fault_list.specs.FaultLaws.{none_left}
+use Rattle.fault_list.specs.RestLaws.{none_right}
 use Rattle.fault_list.specs.declared.fault.Fault.{Fault}
 use Rattle.order_core.specs.Pointwise.{Each}
-use Rattle.order_core.specs.PointwiseLaws.{each_made}
 use Rattle.tree_units.specs.Constants.{constant_of, dim_product, product_of}
 use Rattle.tree_units.specs.ConstantLaws.{constant_faultless, constant_meaning, product_faultless, product_meaning}
+use Rattle.tree_units.specs.DecidedLaws.{IsDecided, all_decided, made, none_both, sure}
+use Rattle.tree_units.specs.ElementLaws.{elements_decided}
+use Rattle.tree_units.specs.Elements.{element_place, elements_named, unknown, unknown_elements}
+use Rattle.tree_units.specs.Posets.{poset_place}
 use Rattle.unit_core.specs.Dimension.{same_dim}
 use Rattle.unit_core.specs.declared.dim.Dim.{Dim}
 use Rattle.value_type.specs.declared.poset.Poset.{Poset}
 use Rattle.value_type.specs.declared.poset.Types.{Types}
 
-none_right : {F : Type 0} (xs ys : List F) → xs ++ ys ≡ [] → ys ≡ []
-none_right [] ys e = e
-none_right (x ∷ xs) ys e = absurd (cc)
-
-none_both : {F : Type 0} (xs ys : List F) → xs ≡ [] → ys ≡ [] → xs ++ ys ≡ []
-none_both xs ys e f = rw (e, f) refl
-
--- There is a value where there is no fault, and no fault where there is a value.
-pub record IsDecided {A F : Type 0} (faults : List F) (value : Option A) : Type 0 where
-  pub there : faults ≡ [] → (x : A) × (value ≡ Some x)
-  pub faultless : (x : A) → value ≡ Some x → faults ≡ []
-
 abbrev IsDecidedRead : Reading → Type 0
 IsDecidedRead read = IsDecided read.faults read.meaning
-
--- What is made of a value has no fault of its own.
-made : {A B F : Type 0} (f : A → B) (faults : List F) (value : Option A) → IsDecided faults value → IsDecided faults (option_map f value)
-made f faults (Some x) d = record { there = λ e. (f x, refl); faultless = λ y e. d.faultless x refl }
-made f faults None d = record { there = λ e. let none = d.there e in absurd (cc); faultless = λ y e. absurd (cc) }
-
-sure : {A F : Type 0} (value : Option A) (fault : F) → IsDecided (fault_unless value fault) value
-sure (Some x) fault = record { there = λ e. (x, refl); faultless = λ y e. refl }
-sure None fault = record { there = λ e. absurd (cc); faultless = λ y e. absurd (cc) }
 
 constant_decided : (c : ConstantTree) → IsDecidedRead (constant_read c)
 constant_decided c = made meaning.Constant _ (constant_of c) (record { there = constant_meaning c; faultless = constant_faultless c })
 
 port_decided : (place : PlaceTree) (port : Option Lower) → IsDecidedRead (port_read place port)
 port_decided place port = made meaning.Expression _ port (sure port _)
-
-one_more : {B F : Type 0} (first rest : List F) (x : Option B) (xs : Option (List B)) → IsDecided first x → IsDecided rest xs → IsDecided (first ++ rest) (with_first x xs)
-one_more first rest (Some x) (Some xs) d e = record { there = λ h. (x ∷ xs, refl); faultless = λ y h. none_both first rest (d.faultless x refl) (e.faultless xs refl) }
-one_more first rest (Some x) None d e = record { there = λ h. let none = e.there (none_right first rest h) in absurd (cc); faultless = λ y h. absurd (cc) }
-one_more first rest None xs d e = record { there = λ h. let none = d.there (none_left first rest h) in absurd (cc); faultless = λ y h. absurd (cc) }
-
--- A list has a value where each of its items has, and no fault where none of them has one.
-all_decided : {A B F : Type 0} (faults : A → List F) (value : A → Option B) (xs : List A) → Each (λ x. IsDecided (faults x) (value x)) xs → IsDecided (flat_map faults xs) (together (map value xs))
-all_decided faults value [] d = record { there = λ e. ([], refl); faultless = λ y e. refl }
-all_decided faults value (x ∷ xs) d = one_more (faults x) (flat_map faults xs) (value x) (together (map value xs)) d.0 (all_decided faults value xs d.1)
 
 literal_decided : (types : Types) (poset : NameAt) (names : List NameAt) (value : ℕ → Poset → Option Lower) → ((k : ℕ) (p : Poset) → IsDecided (unknown_elements p names) (value k p))
     → IsDecided (literal_faults types poset names) (of_poset types poset.name value)
@@ -92,12 +62,6 @@ element_decided types poset element =
     go : (o : Option ℕ) → IsDecided (fault_unless o (unknown element) ++ []) o
     go (Some x) = record { there = λ e. (x, refl); faultless = λ y e. refl }
     go None = record { there = λ e. absurd (cc); faultless = λ y e. absurd (cc) }
-
--- Elements have numbers exactly where none of them is unknown.
-pub elements_decided : (p : Poset) (elements : List NameAt) → IsDecided (unknown_elements p elements) (elements_named p elements)
-elements_decided p elements =
-    all_decided (λ name. fault_unless (element_place p name.name) (unknown name)) (λ name. element_place p name.name) elements
-    (each_made _ elements (λ name m. sure (element_place p name.name) (unknown name)))
 
 upper_decided : (types : Types) (poset : NameAt) (elements : List NameAt) → IsDecidedRead (upper_read types poset elements)
 upper_decided types poset elements = made meaning.Expression _ _ (literal_decided types poset elements (upper_in elements) (λ k p. made _ _ (elements_named p elements) (elements_decided p elements)))

@@ -11,7 +11,6 @@ use Rattle.design_model.specs.declared.expr.Expr.TheVariants as expr
 use Rattle.expr_lower.specs.Literals.{element_of, literal_faults, upper_of}
 use Rattle.expr_lower.specs.Meanings.{joining_of, lowered, times}
 use Rattle.expr_lower.specs.Operands.{joining_faults, times_faults}
-use Rattle.expr_lower.specs.Together.{together}
 use Rattle.expr_lower.specs.declared.meaning.Lower.{Lower}
 use Rattle.expr_lower.specs.declared.meaning.Meaning.{Meaning}
 use Rattle.expr_lower.specs.declared.meaning.Meaning.TheVariants as meaning
@@ -22,6 +21,7 @@ use Rattle.fault_list.specs.declared.fault.Fault.{Fault}
 use Rattle.fault_list.specs.declared.fault.FaultKind.TheVariants.{NoPort}
 use Rattle.fault_list.specs.declared.fault.Stop.{Stop}
 use Rattle.tree_units.specs.Constants.{constant_faults, constant_of}
+use Rattle.tree_units.specs.Together.{together}
 use Rattle.value_type.specs.declared.kind.Kind.TheVariants as kind
 use Rattle.value_type.specs.declared.poset.Types.{Types}
 

@@ -15,13 +15,10 @@ use Rattle.design_model.specs.declared.expr.Expr.TheOpen.{Expr-F}
 use Rattle.design_model.specs.declared.expr.Expr.TheVariants as expr
 use Rattle.design_model.specs.ExprKinds.{PortTypes, has_form, is_number_at, is_number_kind, is_of_kind, parts_are}
 use Rattle.design_model.specs.ExprLaws as laws
-use Rattle.expr_lower.specs.LiteralLaws.{element_is}
-use Rattle.expr_lower.specs.Literals.{element_in, element_place, elements_named, of_poset, upper_in}
-use Rattle.tree_units.specs.Posets.{poset_place}
+use Rattle.expr_lower.specs.Literals.{element_in, of_poset, upper_in}
 use Rattle.expr_lower.specs.Meanings.{common_dim, dimension, dims_product, joining_of, lowered, multiplied, number, number_dim, rounded_up, times, times_numbers}
 use Rattle.expr_lower.specs.Reading.{Reading, lowered_parts, meaning_of_both, reading, tuple_of}
 use Rattle.expr_lower.specs.ReadingLaws.{reading-Constant, reading-Element, reading-Greatest, reading-Lesser, reading-Place, reading-Product, reading-Sum, reading-Tuple, reading-Upper}
-use Rattle.expr_lower.specs.Together.{with_first}
 use Rattle.expr_lower.specs.declared.meaning.Lower.{Lower}
 use Rattle.expr_lower.specs.declared.meaning.Meaning.{Meaning}
 use Rattle.expr_lower.specs.declared.meaning.Meaning.TheVariants as meaning
@@ -31,6 +28,10 @@ use Rattle.order_core.specs.MinimalElementsLaws.{minimal_of_upper}
 use Rattle.order_core.specs.Pointwise.{Each}
 use Rattle.order_core.specs.Tuple.{are_values}
 use Rattle.tree_units.specs.Constants.{constant_of, dim_product, product_of}
+use Rattle.tree_units.specs.ElementLaws.{element_is}
+use Rattle.tree_units.specs.Elements.{element_place, elements_named}
+use Rattle.tree_units.specs.Posets.{poset_place}
+use Rattle.tree_units.specs.Together.{with_first}
 use Rattle.tree_units.specs.declared.constant.Constant.{Constant}
 use Rattle.unit_core.specs.Dimension.{same_dim}
 use Rattle.unit_core.specs.Range.{greatest_part}

@@ -16,7 +16,6 @@ pub use expr::place_of;
 pub use laws::{
     expressions_are_typed, expressions_have_meanings_or_faults, expressions_worked_out,
 };
-pub use literal::{element_place, elements_named};
 pub use lowering::lower;
 pub use meaning::{Lower, Meaning};
 pub use ports::Readable;

@@ -1,18 +1,19 @@
-ghost use Rattle.std.specs.Prelude.{◌≡◌, ℕ, List, IsTrue, Some, [], ◌∷◌, slice_get};
-ghost use Rattle.expr_lower.specs.Literals.{element_of, element_place, elements_named, literal_faults, poset_named, unknown, unknown_elements, upper_of};
-ghost use Rattle.tree_units.specs.Posets.{poset_place};
+ghost use Rattle.std.specs.Prelude.{◌≡◌, ℕ, List, Some, [], ◌∷◌, slice_get};
+ghost use Rattle.expr_lower.specs.Literals.{element_of, literal_faults, poset_named, upper_of};
 ghost use Rattle.fault_list.specs.Answers.{Answers};
 ghost use Rattle.fault_list.specs.Faults.{fault_unless};
 ghost use Rattle.name_index.specs.Names.{number_of};
-ghost use Rattle.value_type.specs.Types.{AreNamed, has_names};
+ghost use Rattle.tree_units.specs.Elements.{unknown};
+ghost use Rattle.tree_units.specs.Posets.{poset_place};
+ghost use Rattle.value_type.specs.Types.{AreNamed};
 
 use crate::meaning::Lower;
 use design_lexer::NameAt;
 use design_model::Expr;
-use fault_list::{Fault, FaultKind, Stop};
+use fault_list::{Fault, Stop};
 use name_index::NameIndex;
-use order_core::List;
 use std::alloc::Global;
+use tree_units::{element_place, elements_named, unknown};
 use value_type::{Kind, Poset, Types, Value};
 
 /// The poset of this name, and its number.
@@ -30,29 +31,6 @@ fn poset_named<'a>(
         }
     }
     Err(Stop::At(unknown(name)))
-}
-
-/// The name leads nowhere.
-fn unknown(name: &NameAt) -> Fault
-    ensures { result ≡ unknown name.now }
-{
-    Fault {
-        kind: FaultKind::Unknown,
-        at: name.at,
-    }
-}
-
-/// The number of the first element of this name in the poset.
-pub fn element_place(poset: &Poset, name: &str) -> Option<u32>
-    requires { IsTrue (has_names poset.now) }
-    ensures { result ≡ element_place poset.now name.now }
-{
-    for (at, element) in poset.elements.items().iter().enumerate() {
-        if name == element.as_str() {
-            return Some(at as u32);
-        }
-    }
-    None
 }
 
 /// The element that a literal names, and the poset's type.
@@ -74,25 +52,6 @@ pub fn element_of(
         }),
         None => Err(Stop::At(unknown(element))),
     }
-}
-
-/// The numbers of the elements named, or the first name that no element of the poset has.
-pub fn elements_named(
-    alloc: Global,
-    poset: &Poset,
-    names: &[NameAt],
-) -> Result<List<u32>, Stop<Fault>>
-    requires { IsTrue (has_names poset.now) }
-    ensures { Answers (unknown_elements poset.now names.now) (λ made. Some made ≡ elements_named poset.now names.now) result }
-{
-    let mut numbers = Vec::new(alloc);
-    for name in names {
-        let Some(number) = element_place(poset, name.name.as_str()) else {
-            return Err(Stop::At(unknown(name)));
-        };
-        numbers.push(number)?;
-    }
-    Ok(List::of(numbers))
 }
 
 /// The upper set of the elements that a literal names, and the type of the poset's upper sets.

@@ -1,6 +1,6 @@
 -- What a check answers by lists of faults that are put together.
-use Rattle.std.proofs.Common.{◌≡◌, ◌∙◌, refl, sym, ap, List, [], ◌++◌}
-use Rattle.std.specs.Prelude.{Result, Ok, Err, Some}
+use Rattle.std.proofs.Common.{◌≡◌, ◌∙◌, sym, ap, List, [], ◌++◌}
+use Rattle.std.specs.Prelude.{Result, Ok, Err}
 use Rattle.fault_list.specs.Answers.{Answers}
 use Rattle.fault_list.specs.Faults.{first_fault}
 use Rattle.fault_list.specs.FaultLaws.{first_left}
@@ -26,3 +26,8 @@ passed_left faults rest e = ap (λ fs. fs ++ rest) e
 pub stopped_same : {A B F : Type 0} (faults whole : List F) (Meant : A → Type 0) (Told : B → Type 0) (s : Stop F) → whole ≡ faults → Answers {A = A} faults Meant (Err s) → Answers {A = B} whole Told (Err s)
 stopped_same faults whole Meant Told (stop.At fault) e h = ap first_fault e ∙ h
 stopped_same faults whole Meant Told stop.Memory e h = tt
+
+-- A check that can't find a fault stops for want of memory alone.
+pub stopped_none : {A B F : Type 0} (faults whole : List F) (Meant : A → Type 0) (Told : B → Type 0) (s : Stop F) → faults ≡ [] → Answers {A = A} faults Meant (Err s) → Answers {A = B} whole Told (Err s)
+stopped_none faults whole Meant Told (stop.At fault) e h = let none = sym h ∙ ap first_fault e in absurd (cc)
+stopped_none faults whole Meant Told stop.Memory e h = tt

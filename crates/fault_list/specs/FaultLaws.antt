@@ -1,7 +1,7 @@
 -- How the first fault of a list is found from its parts, and what a sort by places keeps.
-use Rattle.std.proofs.Common.{◌≡◌, ◌∙◌, ◌<◌, ◌≤◌, refl, sym, ap, arith, ℕ, Bool, true, false, cond, List, [], ◌∷◌, ◌++◌, ◌⊎◌, inl, inr, filter, map}
+use Rattle.std.proofs.Common.{◌≡◌, ◌∙◌, ◌≤◌, refl, sym, ap, arith, ℕ, Bool, true, false, cond, List, [], ◌∷◌, ◌++◌}
 use Rattle.std.proofs.lemmas.Bool.{leb-true, leb-false, le-leb, lt-leb, eqb-true}
-use Rattle.std.specs.Prelude.{nat_eq, nat_le, Option, Some, None, Result, Ok, Err}
+use Rattle.std.specs.Prelude.{nat_eq, nat_le, Option, Some, None, Err}
 use Rattle.order_core.specs.Pointwise.{Each}
 use Rattle.order_core.specs.PointwiseLaws.{each_weaker}
 use Rattle.fault_list.specs.Answers.{Answers, IsInFile}

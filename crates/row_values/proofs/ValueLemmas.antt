@@ -1,12 +1,9 @@
 -- Posets that are found have names, and values are made one by one.
-use Rattle.std.proofs.Common.{◌≡◌, ◌≢◌, ◌∙◌, ◌<◌, ◌+◌, refl, sym, ap, subst, ℕ, suc, Bool, true, false, cond, IsTrue, List, [], ◌∷◌, ◌++◌, append_assoc, drop, get_or, length, map}
+use Rattle.std.proofs.Common.{◌≡◌, ◌≢◌, ◌∙◌, ◌<◌, ◌+◌, refl, sym, ap, subst, ℕ, suc, Bool, true, false, cond, IsTrue, List, [], ◌∷◌, ◌++◌, drop, get_or, length, map}
 use Rattle.std.proofs.lemmas.List.{drop_more}
 use Rattle.std.specs.Prelude.{Option, Some, None, Err, option_and_then, option_map, slice_get}
 use Rattle.std.specs.Str.{bytes_eq}
 use Rattle.design_lexer.specs.declared.tree.NameAt.{NameAt}
-use Rattle.expr_lower.specs.Literals.{elements_named, unknown_elements}
-use Rattle.expr_lower.specs.MeaningLaws.{elements_decided}
-use Rattle.expr_lower.specs.Together.{together, with_first}
 use Rattle.fault_list.specs.Answers.{Answers}
 use Rattle.fault_list.specs.Faults.{first_fault}
 use Rattle.fault_list.specs.declared.fault.Fault.{Fault}
@@ -16,6 +13,10 @@ use Rattle.order_core.specs.MemberLaws.{all_got}
 use Rattle.row_values.specs.Values.{Gives, each_meant, if_named, poset_at}
 use Rattle.row_values.specs.declared.value.CellFault.{CellFault}
 use Rattle.row_values.specs.declared.value.CellFault.TheVariants as fault
+use Rattle.tree_units.specs.ElementLaws.{elements_decided}
+use Rattle.tree_units.specs.Elements.{elements_named, unknown_elements}
+use Rattle.tree_units.specs.Together.{together, with_first}
+use Rattle.tree_units.specs.TogetherLaws.{put_last}
 use Rattle.value_type.specs.Types.{AreNamed, has_names}
 use Rattle.value_type.specs.declared.poset.Poset.{Poset}
 use Rattle.value_type.specs.declared.poset.Types.{Types}
@@ -53,10 +54,6 @@ each_unequal f [] [] h = absurd (h refl)
 each_unequal f [] (x ∷ xs) h = refl
 each_unequal f (k ∷ ks) [] h = refl
 each_unequal f (k ∷ ks) (x ∷ xs) h = ap (with_first (f k x)) (each_unequal f ks xs (λ e. h (ap suc e))) ∙ without (f k x)
-
-pub put_last : {A : Type 0} (made : List A) (x : A) (rest : Option (List A)) → option_map (λ xs. made ++ xs) (with_first (Some x) rest) ≡ option_map (λ xs. (made ++ x ∷ []) ++ xs) rest
-put_last made x None = refl
-put_last {A = A} made x (Some xs) = ap (λ (ys : List A). Some ys) (sym (append_assoc made (x ∷ []) xs))
 
 -- What the partners left mean, in the loop that makes the values one by one.
 module _ {K A B : Type 0} (f : K → A → Option B) (ks : List K) (xs : List A) (i : ℕ) (k : K) (x : A) (inside : i < length ks) (within : i < length xs) (k-is : k ≡ get_or ks i k) (x-is : x ≡ get_or xs i x) where

@@ -5,13 +5,13 @@ use Rattle.design_lexer.specs.declared.tree.RowTree.{RowTree}
 use Rattle.design_lexer.specs.declared.tree.ValueTree.{ValueTree, out-ValueTree}
 use Rattle.design_lexer.specs.declared.tree.ValueTree.TheOpen.{ValueTree-F}
 use Rattle.design_model.specs.declared.design.CatRow.{CatRow}
-use Rattle.expr_lower.specs.Together.{together}
 use Rattle.fault_list.specs.Faults.{fault_if, fault_unless}
 use Rattle.fault_list.specs.declared.fault.Fault.{Fault}
 use Rattle.fault_list.specs.declared.fault.FaultKind.TheVariants.{BadCell, NoRows, RowWidth}
 use Rattle.row_values.specs.Values.{Layer, each_meant, value_meant}
 use Rattle.row_values.specs.declared.value.Rounding.{Rounding}
 use Rattle.row_values.specs.declared.value.Rounding.TheVariants as rounding
+use Rattle.tree_units.specs.Together.{together}
 use Rattle.value_type.specs.declared.port.Port.{Port}
 use Rattle.value_type.specs.declared.poset.Types.{Types}
 use Rattle.value_type.specs.declared.value.Value.{Value}

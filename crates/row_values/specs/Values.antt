@@ -4,14 +4,14 @@ use Rattle.std.specs.Str.{bytes_eq}
 use Rattle.design_lexer.specs.declared.tree.ConstantTree.{ConstantTree}
 use Rattle.design_lexer.specs.declared.tree.ValueTree.{ValueTree, out-ValueTree}
 use Rattle.design_lexer.specs.declared.tree.ValueTree.TheOpen.{ValueTree-F}
-use Rattle.expr_lower.specs.Literals.{element_place, elements_named}
-use Rattle.expr_lower.specs.Together.{with_first}
 use Rattle.order_core.specs.MinimalElements.{minimal_of}
 use Rattle.row_values.specs.declared.value.CellFault.{CellFault}
 use Rattle.row_values.specs.declared.value.CellFault.TheVariants as fault
 use Rattle.row_values.specs.declared.value.Rounding.{Rounding}
 use Rattle.row_values.specs.declared.value.Rounding.TheVariants as rounding
 use Rattle.tree_units.specs.Constants.{constant_of}
+use Rattle.tree_units.specs.Elements.{element_place, elements_named}
+use Rattle.tree_units.specs.Together.{with_first}
 use Rattle.tree_units.specs.declared.constant.Constant.{Constant}
 use Rattle.unit_core.specs.Dimension.{same_dim}
 use Rattle.unit_core.specs.Rounding.{ceiling, floor}

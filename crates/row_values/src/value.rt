@@ -6,11 +6,10 @@ ghost use Rattle.row_values.specs.declared.value.CellFault.TheVariants.{Memory};
 ghost use Rattle.value_type.specs.Types.{AreNamed};
 
 use design_lexer::{ConstantTree, ValueTree};
-use expr_lower::{element_place, elements_named};
 use fault_list::Stop;
 use order_core::{List, NoMemory};
 use std::alloc::{AllocFailed, Global};
-use tree_units::constant_of;
+use tree_units::{constant_of, element_place, elements_named};
 use unit_core::{Dim, Fraction};
 use value_type::{Kind, Poset, Types, Value};
 

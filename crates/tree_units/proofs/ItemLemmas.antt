@@ -1,13 +1,14 @@
 -- What holds of the items of lists, and of what each of them gives.
-use Rattle.std.proofs.Common.{◌≡◌, Bool, false, List, [], ◌∷◌, ◌++◌, map, refl, subst}
+use Rattle.std.proofs.Common.{◌≡◌, Bool, false, List, [], ◌∷◌, map, refl, subst}
 use Rattle.std.specs.List.{flat_map, list_all, list_any}
 use Rattle.std.specs.Prelude.{IsTrue, Option, Some, None, option_map}
 use Rattle.fault_list.specs.FaultLaws.{none_left}
+use Rattle.fault_list.specs.RestLaws.{none_right}
 use Rattle.order_core.specs.MemberLaws.{both}
 use Rattle.order_core.specs.Pointwise.{Each, Pointwise}
 use Rattle.order_core.specs.Tuple.{are_values}
 use Rattle.tree_units.proofs.PortParts.{neither}
-use Rattle.tree_units.specs.Ports.{all_there}
+use Rattle.tree_units.specs.Together.{together, with_first}
 
 abbrev pub IsThere : {A : Type 0} → Option A → Type 0
 IsThere {A = A} o = (x : A) × (o ≡ Some x)
@@ -15,10 +16,6 @@ IsThere {A = A} o = (x : A) × (o ≡ Some x)
 pub map_there : {A B : Type 0} (f : A → B) (o : Option A) (y : B) → option_map f o ≡ Some y → (x : A) × (o ≡ Some x) × (f x ≡ y)
 map_there f None y h = absurd (cc)
 map_there f (Some x) y h = (x, refl, cc)
-
-none_right : {A : Type 0} (xs ys : List A) → xs ++ ys ≡ [] → ys ≡ []
-none_right [] ys h = h
-none_right (x ∷ xs) ys h = absurd (cc)
 
 pub none_each : {A B : Type 0} (f : A → List B) (xs : List A) → flat_map f xs ≡ [] → Each (λ x. f x ≡ []) xs
 none_each f [] h = tt
@@ -40,21 +37,20 @@ pub each_applied : {A : Type 0} (P Q : A → Type 0) (xs : List A) → Each (λ 
 each_applied P Q [] f h = tt
 each_applied P Q (x ∷ xs) f h = (f.0 h.0, each_applied P Q xs f.1 h.1)
 
-pub all_of_each : {A B : Type 0} (f : A → Option B) (xs : List A) → Each (λ x. IsThere (f x)) xs → IsThere (all_there (map f xs))
+pub all_of_each : {A B : Type 0} (f : A → Option B) (xs : List A) → Each (λ x. IsThere (f x)) xs → IsThere (together (map f xs))
 all_of_each f [] h = ([], refl)
 all_of_each f (x ∷ xs) h = let rest = all_of_each f xs h.1 in (h.0.0 ∷ rest.0, rw (h.0.1, rest.1) refl)
 
-pub each_of_all : {A B : Type 0} (f : A → Option B) (xs : List A) (ys : List B) → all_there (map f xs) ≡ Some ys → Pointwise (λ x y. f x ≡ Some y) xs ys
+pub each_of_all : {A B : Type 0} (f : A → Option B) (xs : List A) (ys : List B) → together (map f xs) ≡ Some ys → Pointwise (λ x y. f x ≡ Some y) xs ys
 each_of_all f [] [] h = tt
 each_of_all f [] (y ∷ ys) h = absurd (cc)
-each_of_all {A = A} {B = B} f (x ∷ xs) ys h = go (f x) refl h (each_of_all f xs)
+each_of_all {A = A} {B = B} f (x ∷ xs) ys h = go (f x) (together (map f xs)) refl h (each_of_all f xs)
   where
-    go : (o : Option B) → f x ≡ o → all_there (o ∷ map f xs) ≡ Some ys → ((zs : List B) → all_there (map f xs) ≡ Some zs → Pointwise (λ (a : A) (b : B). f a ≡ Some b) xs zs)
+    go : (o : Option B) (q : Option (List B)) → f x ≡ o → with_first o q ≡ Some ys → ((zs : List B) → q ≡ Some zs → Pointwise (λ (a : A) (b : B). f a ≡ Some b) xs zs)
         → Pointwise (λ (a : A) (b : B). f a ≡ Some b) (x ∷ xs) ys
-    go None e k later = absurd (cc)
-    go (Some y) e k later =
-        let rest = map_there (λ (zs : List B). y ∷ zs) (all_there (map f xs)) ys k in
-        subst (λ (zs : List B). Pointwise (λ (a : A) (b : B). f a ≡ Some b) (x ∷ xs) zs) rest.2 (e, later rest.0 rest.1)
+    go None q e k later = absurd (cc)
+    go (Some y) None e k later = absurd (cc)
+    go (Some y) (Some zs) e k later = let same : y ∷ zs ≡ ys = cc in subst (λ (ws : List B). Pointwise (λ (a : A) (b : B). f a ≡ Some b) (x ∷ xs) ws) same (e, later zs refl)
 
 -- what follows for each item of what it gives
 pub each_given : {A B : Type 0} (f : A → Option B) (P : A → Type 0) (xs : List A) (ys : List B) → Each (λ x. (y : B) → f x ≡ Some y → P x) xs → Pointwise (λ x y. f x ≡ Some y) xs ys → Each P xs

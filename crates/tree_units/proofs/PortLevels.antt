@@ -8,7 +8,8 @@ use Rattle.design_lexer.specs.declared.tree.NameAt.{NameAt}
 use Rattle.design_lexer.specs.declared.tree.TypeTree.{TypeTree, fold_out-TypeTree}
 use Rattle.design_lexer.specs.declared.tree.TypeTree.TheVariants as type
 use Rattle.fault_list.specs.declared.fault.Fault.{Fault}
-use Rattle.tree_units.specs.Ports.{all_there, counted, has_off_grid, is_off_grid, kind_of, number_kind, port_measure, port_unit_of, poset_faults, some_off_grid, type_faults, unit_at, unit_text}
+use Rattle.tree_units.specs.Ports.{counted, has_off_grid, is_off_grid, kind_of, number_kind, port_measure, port_unit_of, poset_faults, some_off_grid, type_faults, unit_at, unit_text}
+use Rattle.tree_units.specs.Together.{together}
 use Rattle.tree_units.specs.Units.{unit_faults}
 use Rattle.unit_core.specs.Measure.{one}
 use Rattle.value_type.specs.declared.kind.Kind.TheVariants as kind
@@ -41,7 +42,7 @@ unit-Poset name = rw (fold_out-TypeTree, type.outs-Poset) refl
 pub unit-Up : (name : NameAt) → port_unit_of (type.Up name) ≡ Some unit.Poset
 unit-Up name = rw (fold_out-TypeTree, type.outs-Up) refl
 
-pub unit-Product : (parts : List TypeTree) → port_unit_of (type.Product parts) ≡ option_map unit.Parts (all_there (map port_unit_of parts))
+pub unit-Product : (parts : List TypeTree) → port_unit_of (type.Product parts) ≡ option_map unit.Parts (together (map port_unit_of parts))
 unit-Product parts = rw (fold_out-TypeTree, type.outs-Product) refl
 
 module _ (posets : List ℕ → Option ℕ) where
@@ -72,5 +73,5 @@ module _ (posets : List ℕ → Option ℕ) where
   pub kind-Up : (name : NameAt) → kind_of posets (type.Up name) ≡ option_map kind.Up (posets name.name)
   kind-Up name = rw (fold_out-TypeTree, type.outs-Up) refl
 
-  pub kind-Product : (parts : List TypeTree) → kind_of posets (type.Product parts) ≡ option_map kind.Prod (all_there (map (kind_of posets) parts))
+  pub kind-Product : (parts : List TypeTree) → kind_of posets (type.Product parts) ≡ option_map kind.Prod (together (map (kind_of posets) parts))
   kind-Product parts = rw (fold_out-TypeTree, type.outs-Product) refl

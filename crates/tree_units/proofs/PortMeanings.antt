@@ -15,7 +15,8 @@ use Rattle.tree_units.proofs.ItemLemmas.{IsThere, all_of_each, each_applied, eac
 use Rattle.tree_units.proofs.PortLevels as level
 use Rattle.tree_units.proofs.TypeInduction.{for_each_type}
 use Rattle.tree_units.proofs.UnitSizes.{measure_sized}
-use Rattle.tree_units.specs.Ports.{all_posets, all_there, counted, has_off_grid, is_uneven, kind_of, number_kind, port_faults, port_measure, port_of, port_unit_of, type_faults, unit_at, unit_text}
+use Rattle.tree_units.specs.Ports.{all_posets, counted, has_off_grid, is_uneven, kind_of, number_kind, port_faults, port_measure, port_of, port_unit_of, type_faults, unit_at, unit_text}
+use Rattle.tree_units.specs.Together.{together}
 use Rattle.tree_units.specs.Units.{is_whole}
 use Rattle.unit_core.specs.Measure.{Measure, one}
 use Rattle.unit_core.specs.declared.dim.Dim.{Dim}
@@ -151,7 +152,7 @@ kind_faultless posets = for_each_type (HasNoFault posets)
   where
     product : (parts : List TypeTree) → Each (HasNoFault posets) parts → HasNoFault posets (type.Product parts)
     product parts each k h =
-        let all = map_there kind.Prod (all_there (map (kind_of posets) parts)) k (sym (level.kind-Product posets parts) ∙ h) in
+        let all = map_there kind.Prod (together (map (kind_of posets) parts)) k (sym (level.kind-Product posets parts) ∙ h) in
         level.faults-Product posets parts
         ∙ each_none (type_faults posets) parts (each_given (kind_of posets) (λ t. type_faults posets t ≡ []) parts all.0 each (each_of_all (kind_of posets) parts all.0 all.1))
 
@@ -168,7 +169,7 @@ unit_on_grid = for_each_type IsOnGrid
   where
     product : (parts : List TypeTree) → Each IsOnGrid parts → IsOnGrid (type.Product parts)
     product parts each u h =
-        let all = map_there unit.Parts (all_there (map port_unit_of parts)) u (sym (level.unit-Product parts) ∙ h) in
+        let all = map_there unit.Parts (together (map port_unit_of parts)) u (sym (level.unit-Product parts) ∙ h) in
         level.grid-Product parts
         ∙ each_false has_off_grid parts (each_given port_unit_of (λ t. has_off_grid t ≡ false) parts all.0 each (each_of_all port_unit_of parts all.0 all.1))
 
@@ -189,8 +190,8 @@ type_fits posets = for_each_type (Fits posets)
   where
     product : (parts : List TypeTree) → Each (Fits posets) parts → Fits posets (type.Product parts)
     product parts each k u h l =
-        let ks = map_there kind.Prod (all_there (map (kind_of posets) parts)) k (sym (level.kind-Product posets parts) ∙ h) in
-        let us = map_there unit.Parts (all_there (map port_unit_of parts)) u (sym (level.unit-Product parts) ∙ l) in
+        let ks = map_there kind.Prod (together (map (kind_of posets) parts)) k (sym (level.kind-Product posets parts) ∙ h) in
+        let us = map_there unit.Parts (together (map port_unit_of parts)) u (sym (level.unit-Product parts) ∙ l) in
         fits_again (kind.Prod ks.0) k (unit.Parts us.0) u (ap (λ (x : Kind). Some x) ks.2) (ap (λ (y : PortUnit). Some y) us.2)
         (fits-Prod ks.0 us.0 (each_fits (kind_of posets) port_unit_of unit_fits parts ks.0 us.0 each (each_of_all (kind_of posets) parts ks.0 ks.1) (each_of_all port_unit_of parts us.0 us.1)))
 
@@ -220,7 +221,7 @@ module _ (posets : List ℕ → Option ℕ) (test : ℕ → Bool) (passes : (nam
 
       product : (parts : List TypeTree) → Each PassesAll parts → PassesAll (type.Product parts)
       product parts each k h =
-          let ks = map_there kind.Prod (all_there (map (kind_of posets) parts)) k (sym (level.kind-Product posets parts) ∙ h) in
+          let ks = map_there kind.Prod (together (map (kind_of posets) parts)) k (sym (level.kind-Product posets parts) ∙ h) in
           subst Passes ks.2 (rw (fold_out-Kind, kind.outs-Prod) (each_gives (kind_of posets) (all_posets test) parts ks.0 each (each_of_all (kind_of posets) parts ks.0 ks.1)))
 
 -- ---- ports

@@ -9,6 +9,7 @@ use Rattle.design_lexer.specs.declared.tree.TypeTree.TheOpen.{TypeTree-F}
 use Rattle.fault_list.specs.Faults.{fault_if, fault_unless}
 use Rattle.fault_list.specs.declared.fault.Fault.{Fault}
 use Rattle.fault_list.specs.declared.fault.FaultKind.TheVariants.{PortGrid, Unknown}
+use Rattle.tree_units.specs.Together.{together}
 use Rattle.tree_units.specs.Units.{is_whole, measure_of, unit_faults}
 use Rattle.unit_core.specs.Measure.{Measure, one}
 use Rattle.value_type.specs.declared.kind.Kind.{Kind}
@@ -75,12 +76,6 @@ port_faults posets tree = fault_if (has_off_grid tree.kind) (record { kind = Por
 
 -- ---- meanings
 
--- the items, where each is there
-abbrev pub all_there : {A : Type 0} → List (Option A) → Option (List A)
-all_there [] = Some []
-all_there (None ∷ items) = None
-all_there (Some x ∷ items) = option_map (λ rest. x ∷ rest) (all_there items)
-
 -- the numbers of the unit's dimension
 abbrev pub number_kind : Result Measure Fault → Option Kind
 number_kind (Ok u) = Some (kind.Num u.dim)
@@ -92,7 +87,7 @@ kind_step posets TypeTree-F.Nat = Some (kind.Num one.dim)
 kind_step posets (TypeTree-F.Unit factors) = number_kind (port_measure factors)
 kind_step posets (TypeTree-F.Poset name) = option_map kind.Fin (posets name.name)
 kind_step posets (TypeTree-F.Up name) = option_map kind.Up (posets name.name)
-kind_step posets (TypeTree-F.Product parts) = option_map kind.Prod (all_there parts)
+kind_step posets (TypeTree-F.Product parts) = option_map kind.Prod (together parts)
 
 -- the type that the tree writes, where its units break no rule and its posets are there
 abbrev pub kind_of : (List ℕ → Option ℕ) → TypeTree → Option Kind
@@ -129,7 +124,7 @@ port_unit_step TypeTree-F.Nat = Some unit.Nat
 port_unit_step (TypeTree-F.Unit factors) = counted (unit_text factors) (port_measure factors)
 port_unit_step (TypeTree-F.Poset name) = Some unit.Poset
 port_unit_step (TypeTree-F.Up name) = Some unit.Poset
-port_unit_step (TypeTree-F.Product parts) = option_map unit.Parts (all_there parts)
+port_unit_step (TypeTree-F.Product parts) = option_map unit.Parts (together parts)
 
 -- how values of the type are written, where its units break no rule and are on the grid
 abbrev pub port_unit_of : TypeTree → Option PortUnit

@@ -3,7 +3,8 @@ ghost use Rattle.std.specs.List.{flat_map};
 ghost use Rattle.fault_list.specs.Answers.{Answers};
 ghost use Rattle.fault_list.specs.Faults.{faults_in};
 ghost use Rattle.name_index.specs.Names.{number_of};
-ghost use Rattle.tree_units.specs.Ports.{all_there, counted, factor_text, has_off_grid, is_off_grid, joined_text, kind_of, number_kind, port_faults, port_measure, port_of, port_unit_of, poset_faults, some_off_grid, type_faults, unit_at, unit_text};
+ghost use Rattle.tree_units.specs.Ports.{counted, factor_text, has_off_grid, is_off_grid, joined_text, kind_of, number_kind, port_faults, port_measure, port_of, port_unit_of, poset_faults, some_off_grid, type_faults, unit_at, unit_text};
+ghost use Rattle.tree_units.specs.Together.{together};
 ghost use Rattle.unit_core.specs.Measure.{measure};
 ghost use Rattle.unit_core.specs.Results.{map_ok};
 
@@ -219,7 +220,7 @@ fn type_of(alloc: Global, tree: &TypeTree, posets: &NameIndex) -> Result<Typed, 
 #[cycle(types)]
 fn types_of(alloc: Global, trees: &[TypeTree], posets: &NameIndex) -> Result<Parts, Stop<Fault>>
     requires on_grid { some_off_grid trees.now ≡ false }
-    ensures { Answers (flat_map (type_faults (number_of posets.now)) trees.now) (λ made. (Some made.kinds.items ≡ all_there (map (kind_of (number_of posets.now)) trees.now)) × (Some made.units.items ≡ all_there (map port_unit_of trees.now))) result }
+    ensures { Answers (flat_map (type_faults (number_of posets.now)) trees.now) (λ made. (Some made.kinds.items ≡ together (map (kind_of (number_of posets.now)) trees.now)) × (Some made.units.items ≡ together (map port_unit_of trees.now))) result }
 {
     let mut kinds = Vec::new(alloc);
     let mut units = Vec::new(alloc);

@@ -6,7 +6,7 @@ use Rattle.std.specs.Str.{bytes_eq}
 use Rattle.design_lexer.specs.declared.tree.File.{File}
 use Rattle.design_lexer.specs.declared.tree.File.TheVariants as file
 use Rattle.design_lexer.specs.declared.tree.NameAt.{NameAt}
-use Rattle.expr_lower.specs.Literals.{element_place, literal_faults, poset_named, unknown_elements}
+use Rattle.expr_lower.specs.Literals.{literal_faults, poset_named}
 use Rattle.expr_lower.specs.Literals as literals
 use Rattle.fault_list.specs.FaultLaws.{none_by_place, none_left}
 use Rattle.fault_list.specs.Faults.{fault_if, fault_unless, in_file, named}
@@ -26,6 +26,8 @@ use Rattle.name_table.specs.declared.source.SourceFile.{SourceFile}
 use Rattle.name_table.specs.declared.source.Table.{Table}
 use Rattle.order_core.specs.Pointwise.{Each, Pointwise}
 use Rattle.order_core.specs.PointwiseLaws.{each_weaker}
+use Rattle.tree_units.specs.Elements.{element_place, unknown_elements}
+use Rattle.tree_units.specs.Elements as element_names
 use Rattle.unit_check.proofs.PlaceLemmas.{position_mapped}
 use Rattle.unit_check.proofs.RestLemmas.{none_right}
 use Rattle.value_type.specs.declared.poset.Poset.{Poset}
@@ -175,9 +177,9 @@ library_has files tables types are = record { poset = found }
 
 elements_known : (p : Poset) (finds : List ℕ → Bool) → ((element : List ℕ) → finds element ≡ true → is_some (element_place p element) ≡ true) → (elements : List NameAt) → unknown_names finds elements ≡ [] → unknown_elements p elements ≡ []
 elements_known p finds h elements e =
-    all_none (λ (name : NameAt). fault_unless (element_place p name.name) (literals.unknown name)) elements
-    (each_weaker (λ (name : NameAt). unknown_unless finds name ≡ []) (λ (name : NameAt). fault_unless (element_place p name.name) (literals.unknown name) ≡ []) elements
-    (λ name m none. none_there (element_place p name.name) (literals.unknown name) (h name.name (passed (finds name.name) (unknown name) none))) (each_none (unknown_unless finds) elements e))
+    all_none (λ (name : NameAt). fault_unless (element_place p name.name) (element_names.unknown name)) elements
+    (each_weaker (λ (name : NameAt). unknown_unless finds name ≡ []) (λ (name : NameAt). fault_unless (element_place p name.name) (element_names.unknown name) ≡ []) elements
+    (λ name m none. none_there (element_place p name.name) (element_names.unknown name) (h name.name (passed (finds name.name) (unknown name) none))) (each_none (unknown_unless finds) elements e))
 
 pub literal_known : (known : Known) (types : Types) → HasPosets known types → (poset : NameAt) (elements : List NameAt) → literal_unknown known poset elements ≡ [] → literal_faults types poset elements ≡ []
 literal_known known types has poset elements e = go (known.poset poset.name) refl e

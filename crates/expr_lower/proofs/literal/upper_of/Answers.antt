@@ -2,8 +2,8 @@ use Rattle.std.proofs.Common.{sym, subst, ℕ, List, IsTrue}
 use Rattle.std.specs.List.{list_all}
 use Rattle.order_core.specs.Finite.{is_element}
 use Rattle.order_core.specs.MemberLaws.{all_got}
+use Rattle.tree_units.specs.ElementLaws.{elements_are}
 use Rattle.value_type.specs.Types.{has_names}
-use Rattle.expr_lower.specs.LiteralLaws.{elements_are}
 use Rattle.expr_lower.proofs.literal.upper_of.Goals as goal
 
 pub elements_named-requires : goal.elements_named-requires

@@ -3,8 +3,8 @@ use Rattle.std.specs.List.{list_all}
 use Rattle.std.specs.Prelude.{Some, None, option_and_then, option_map}
 use Rattle.design_lexer.specs.declared.tree.ValueTree.{out-ValueTree}
 use Rattle.design_lexer.specs.declared.tree.ValueTree.TheVariants.{outs-Upper}
-use Rattle.expr_lower.specs.LiteralLaws.{elements_are}
-use Rattle.expr_lower.specs.Literals.{elements_named}
+use Rattle.tree_units.specs.ElementLaws.{elements_are}
+use Rattle.tree_units.specs.Elements.{elements_named}
 use Rattle.order_core.specs.Finite.{is_element}
 use Rattle.order_core.specs.MinimalElements.{minimal_of}
 use Rattle.row_values.proofs.ValueLemmas.{found_named, unnamed_at}

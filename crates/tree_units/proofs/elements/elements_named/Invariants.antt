@@ -1,7 +1,7 @@
 use Rattle.std.proofs.Common.{◌≡◌, ◌++◌, drop}
 use Rattle.std.specs.Prelude.{option_map}
-use Rattle.expr_lower.specs.Literals.{elements_named, unknown_elements}
-use Rattle.expr_lower.proofs.literal.elements_named.Given as goal
+use Rattle.tree_units.specs.Elements.{elements_named, unknown_elements}
+use Rattle.tree_units.proofs.elements.elements_named.Given as goal
 
 -- What is left decides.
 abbrev pub invariant-loop-name : goal.invariant-loop-name
