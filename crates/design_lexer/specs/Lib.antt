@@ -5,6 +5,7 @@ pub mod Cut
 pub mod CutLaws
 pub mod Pieces
 pub mod Scan
+pub mod Sides
 pub mod StartLaws
 pub mod Starts
 pub mod Syntax

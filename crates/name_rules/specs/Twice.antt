@@ -1,7 +1,8 @@
 -- Names that stand twice where they may stand once.
-use Rattle.std.specs.Prelude.{ℕ, Bool, true, false, List, [], ◌∷◌, ◌++◌, filter, map, max, Option, Some, None}
+use Rattle.std.specs.Prelude.{ℕ, Bool, List, [], ◌∷◌, ◌++◌, filter, map, max, Option, Some, None}
 use Rattle.std.specs.List.{flat_map, list_any}
 use Rattle.std.specs.Str.{bytes_eq}
+use Rattle.design_lexer.specs.Sides.{same_side}
 use Rattle.design_lexer.specs.declared.tree.BodyTree.{BodyTree}
 use Rattle.design_lexer.specs.declared.tree.BodyTree.TheVariants as body
 use Rattle.design_lexer.specs.declared.tree.BranchTree.{BranchTree}
@@ -29,11 +30,6 @@ is_listed names name = list_any (λ m. bytes_eq name m.name) names
 abbrev pub repeats : List NameAt → List NameAt → List Fault
 repeats before [] = []
 repeats before (n ∷ names) = fault_if (is_listed before n.name) (twice n) ++ repeats (before ++ n ∷ []) names
-
-abbrev pub same_side : Side → Side → Bool
-same_side Provides Provides = true
-same_side Requires Requires = true
-same_side _ _ = false
 
 -- the names of the ports of one side
 abbrev pub port_names : Side → List PortTree → List NameAt

@@ -1,7 +1,8 @@
 ghost use Rattle.std.specs.Prelude.{◌≡◌, [], OnOk, is_some, map};
+ghost use Rattle.design_lexer.specs.Sides.{same_side};
 ghost use Rattle.fault_list.specs.Faults.{earlier, fault_if, least};
 ghost use Rattle.name_index.specs.Names.{number_of, with_name};
-ghost use Rattle.name_rules.specs.Twice.{port_names, port_repeats, repeats, same_side, twice};
+ghost use Rattle.name_rules.specs.Twice.{port_names, port_repeats, repeats, twice};
 
 use crate::named::Named;
 use crate::note::note;

@@ -7,4 +7,5 @@ pub mod NameFaults
 pub mod Orders
 pub mod Ranks
 pub mod References
+pub mod SmallLaws
 pub mod Stems

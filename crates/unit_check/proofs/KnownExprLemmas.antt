@@ -23,6 +23,7 @@ use Rattle.expr_lower.specs.declared.meaning.Meaning.{Meaning}
 use Rattle.expr_lower.specs.declared.meaning.Meaning.TheVariants as meaning
 use Rattle.fault_list.specs.FaultLaws.{none_left}
 use Rattle.fault_list.specs.Faults.{fault_unless, in_file}
+use Rattle.fault_list.specs.RestLaws.{none_right}
 use Rattle.fault_list.specs.declared.fault.Fault.{Fault}
 use Rattle.fault_list.specs.declared.fault.FaultKind.TheVariants.{Exponent, Unknown}
 use Rattle.fault_list.specs.declared.fault.FileFault.{FileFault}
@@ -35,7 +36,6 @@ use Rattle.tree_units.specs.Constants.{dim_product}
 use Rattle.tree_units.specs.Ports.{port_faults}
 use Rattle.tree_units.specs.Posets.{poset_place}
 use Rattle.unit_check.proofs.KnownTypeLemmas.{constant_other, fraction_other, port_other}
-use Rattle.unit_check.proofs.RestLemmas.{none_right}
 use Rattle.unit_check.proofs.UnknownLemmas.{AreOther, HasPosets, IsOther, both_other, each_both, each_joined, each_none, if_other, literal_known, none_other, unless_other}
 use Rattle.unit_check.specs.Declaring.{body_ports, ports_in}
 use Rattle.unit_check.specs.Rules.{is_port, rule_faults, rules_faults, side_faults, sides_differ}

@@ -10,6 +10,7 @@ use Rattle.design_lexer.specs.declared.tree.TypeTree.{TypeTree, fold-roll-TypeTr
 use Rattle.design_lexer.specs.declared.tree.TypeTree.TheOpen.{TypeTree-F}
 use Rattle.fault_list.specs.FaultLaws.{none_left}
 use Rattle.fault_list.specs.Faults.{fault_unless, faults_in}
+use Rattle.fault_list.specs.RestLaws.{none_right}
 use Rattle.fault_list.specs.declared.fault.Fault.{Fault}
 use Rattle.fault_list.specs.declared.fault.FaultKind.TheVariants.{Exponent, PortGrid}
 use Rattle.name_rules.specs.Known.{Known}
@@ -18,7 +19,6 @@ use Rattle.tree_units.specs.Constants.{constant_faults, fraction_fault, fraction
 use Rattle.tree_units.specs.Ports.{fault_step, has_off_grid, port_faults, poset_faults, type_faults, unit_at}
 use Rattle.tree_units.specs.Posets.{poset_place}
 use Rattle.tree_units.specs.Units.{factor_measure, measure_of, multiplied, named_measure, placed, product_from, raised, unit_fault, unit_faults}
-use Rattle.unit_check.proofs.RestLemmas.{none_right}
 use Rattle.unit_check.proofs.UnknownLemmas.{AreOther, HasPosets, IsOther, both_other, if_other, none_other, none_there, passed}
 use Rattle.value_type.specs.declared.poset.Types.{Types}
 

@@ -5,10 +5,8 @@ pub mod FollowLemmas
 pub mod KnownExprLemmas
 pub mod KnownTypeLemmas
 pub mod MarkLemmas
-pub mod NamedLemmas
 pub mod NetLemmas
 pub mod NetTypeLemmas
 pub mod PlaceLemmas
-pub mod RestLemmas
 pub mod TypedLemmas
 pub mod UnknownLemmas

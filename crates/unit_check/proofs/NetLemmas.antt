@@ -4,22 +4,16 @@ use Rattle.std.proofs.lemmas.Slice.Eq.{bytes_eq-Decides}
 use Rattle.std.specs.List.{flat_map, list_all}
 use Rattle.std.specs.Prelude.{Option, Some, None, is_some, not}
 use Rattle.std.specs.Str.{bytes_eq}
+use Rattle.design_lexer.specs.Sides.{same_side}
 use Rattle.design_lexer.specs.declared.tree.BranchTree.{BranchTree}
 use Rattle.design_lexer.specs.declared.tree.ParamTree.{ParamTree}
 use Rattle.design_lexer.specs.declared.tree.PortTree.{PortTree}
 use Rattle.design_lexer.specs.declared.tree.RuleTree.{RuleTree}
 use Rattle.design_lexer.specs.declared.tree.Side.TheVariants.{Requires}
-use Rattle.design_lexer.specs.declared.tree.BodyTree.{BodyTree}
-use Rattle.design_lexer.specs.declared.tree.BodyTree.TheVariants as body
-use Rattle.design_lexer.specs.declared.tree.File.{File}
-use Rattle.design_lexer.specs.declared.tree.File.TheVariants as file
 use Rattle.fault_list.specs.Faults.{fault_if, in_file}
 use Rattle.fault_list.specs.declared.fault.FileFault.{FileFault}
-use Rattle.name_rules.specs.Sizes.{IsSmall, IsSmallBody}
-use Rattle.std.specs.Coded.{le_prop}
 use Rattle.name_index.specs.Names.{number_of}
 use Rattle.name_index.specs.PlaceLaws.{position_there}
-use Rattle.name_rules.specs.Twice.{same_side}
 use Rattle.name_table.specs.Stems.{has_element}
 use Rattle.name_table.specs.declared.source.SourceFile.{SourceFile}
 use Rattle.order_core.specs.MemberLaws.{any_intro}
@@ -66,18 +60,3 @@ module _ (parts : List BranchTree) (rules : List RuleTree) (named : NamedPorts) 
 -- the faults of one file, with its name
 abbrev pub file_faults : List SourceFile → SourceFile → List FileFault
 file_faults files f = in_file f.name (file_unconnected files f.tree)
-
-pair_prop : {A B : Type 0} → IsProp A → IsProp B → IsProp (A × B)
-pair_prop p q = λ a b i. (p a.0 b.0 i, q a.1 b.1 i)
-
-body_prop : (b : BodyTree) → IsProp (IsSmallBody b)
-body_prop (body.Catalogue ports rows table) = pair_prop le_prop le_prop
-body_prop (body.Choose branches) = le_prop
-body_prop (body.Net ports parts rules) = λ a b i. (le_prop a.0 b.0 i, le_prop a.1 b.1 i, le_prop a.2 b.2 i)
-
--- That a file is small has one proof.
-pub small_prop : (f : File) → IsProp (IsSmall f)
-small_prop (file.Poset poset) = le_prop
-small_prop (file.Interface ports) = le_prop
-small_prop (file.Design b) = body_prop b
-small_prop (file.Template params b) = pair_prop le_prop (body_prop b)

@@ -1,21 +1,22 @@
 -- Places of parts and of files.
-use Rattle.std.proofs.Common.{◌≡◌, ◌∙◌, ◌<◌, ◌≤◌, ◌+◌, ◌&&◌, ◌⊎◌, inl, inr, arith, refl, sym, ap, subst, ℕ, zero, suc, Bool, true, false, cond, List, [], ◌∷◌, length, get_or}
+use Rattle.std.proofs.Common.{◌≡◌, ◌∙◌, ◌<◌, ◌≤◌, ◌+◌, ◌⊎◌, inl, inr, arith, refl, sym, ap, subst, ℕ, zero, suc, Bool, true, false, cond, List, [], ◌∷◌, length, get_or}
 use Rattle.std.specs.List.{position_from}
 use Rattle.std.proofs.lemmas.Option.{slice_get_cases, slice_get-map}
 use Rattle.std.proofs.lemmas.Slice.Eq.{bytes_eq-Decides}
 use Rattle.std.specs.Prelude.{Option, Some, None, map, option_and_then, option_map, slice_get}
 use Rattle.std.specs.Str.{bytes_eq}
 use Rattle.design_lexer.specs.declared.tree.BranchTree.{BranchTree}
-use Rattle.design_lexer.specs.declared.tree.ParamTree.{ParamTree}
 use Rattle.design_lexer.specs.declared.tree.RefTree.{out-RefTree}
-use Rattle.name_index.specs.PlaceLaws.{place_below, position_below}
-use Rattle.name_index.specs.Places.{named_item, place_of}
-use Rattle.name_table.specs.Files.{is_design, is_interface, stem_place}
+use Rattle.name_index.specs.PlaceLaws.{place_below}
+use Rattle.name_index.specs.Places.{place_of}
 use Rattle.name_table.specs.declared.source.SourceFile.{SourceFile}
-use Rattle.unit_check.specs.Declaring.{choice_of, declaring, file_of, named_file, next_file, params_of, part_file}
+use Rattle.side_ports.specs.Held.{sides_held}
+use Rattle.side_ports.specs.Sides.{Sides}
+use Rattle.unit_check.specs.Declaring.{choice_of, declaring, next_file, params_of, part_file}
 use Rattle.unit_check.proofs.FollowLemmas.{follow-within}
-use Rattle.unit_check.specs.Held.{part_held, sides_held}
-use Rattle.unit_check.specs.Scopes.{PartPorts, Sides, part_at}
+use Rattle.unit_check.specs.Held.{part_held}
+use Rattle.unit_check.specs.PortLaws.{named_file_below}
+use Rattle.unit_check.specs.Scopes.{PartPorts, part_at}
 use Rattle.unit_check.specs.declared.scope.ScopePart.{ScopePart}
 
 -- A place that is found is not before the first one.
@@ -54,17 +55,6 @@ same_place {A = A} named items a b k e f = go (slice_get_cases items k).1
         let two = passes_at (λ x. bytes_eq b (named x)) 0 items k w.0 (f ∙ ap (λ (z : ℕ). Some z) same) w.2 in
         (bytes_eq-Decides a (named w.0)).0 one ∙ sym ((bytes_eq-Decides b (named w.0)).0 two)
     go (inr w) = let l = place_below named items a k e in absurd (omega (arith, l, w.0))
-
--- The file that a name stands for is one of the files.
-pub named_file_below : (files : List SourceFile) (params : List ParamTree) (name : List ℕ) (k : ℕ) → named_file files params name ≡ Some k → k < length files
-named_file_below files params name k e = go (named_item (λ (p : ParamTree). p.name.name) params name) e
-  where
-    stem_below : (space : _) (stem : List ℕ) → stem_place space files stem ≡ Some k → k < length files
-    stem_below space stem h = let l = position_below (λ (f : SourceFile). space f.tree && bytes_eq stem f.stem) 0 files k h in omega (arith, l)
-
-    go : (o : Option ParamTree) → file_of files name o ≡ Some k → k < length files
-    go (Some p) h = stem_below is_interface p.interface.name h
-    go None h = stem_below is_design name h
 
 -- The file that declares the ports of a file is one of the files.
 pub declaring_below : (files : List SourceFile) (i : ℕ) → i < length files → declaring files i < length files

@@ -1,118 +1,32 @@
--- The ports of files: how many there are, what a table has of them, and when they have no fault.
-use Rattle.std.proofs.Common.{◌≡◌, ◌∙◌, ◌<◌, ◌≤◌, ◌^◌, ◌+◌, ◌⊎◌, inl, inr, arith, refl, sym, ap, subst, ℕ, zero, suc, Bool, true, false, cond, List, [], ◌∷◌, ◌++◌, drop, filter, length, set}
-use Rattle.std.proofs.Math.Logic.{∥∥₁_elim}
+-- What a table has of the ports of files, and the files gone through by their numbers.
+use Rattle.std.proofs.Common.{◌≡◌, ◌∙◌, ◌<◌, ◌≤◌, ◌+◌, ◌⊎◌, inl, inr, arith, refl, sym, ap, subst, ℕ, zero, suc, List, [], ◌∷◌, ◌++◌, drop, length, set}
 use Rattle.std.proofs.lemmas.List.{drop_more, length-set}
 use Rattle.std.proofs.lemmas.Option.{slice_get_cases, slice_get_read}
 use Rattle.std.specs.List.{flat_map}
-use Rattle.std.specs.Prelude.{Option, Some, None, Err, get_or, map, slice_get}
-use Rattle.design_lexer.specs.declared.tree.BodyTree.{BodyTree}
-use Rattle.design_lexer.specs.declared.tree.BodyTree.TheVariants as body
+use Rattle.std.specs.Prelude.{Option, Some, None, get_or, map, slice_get}
 use Rattle.design_lexer.specs.declared.tree.BranchTree.{BranchTree}
 use Rattle.design_lexer.specs.declared.tree.File.{File}
-use Rattle.design_lexer.specs.declared.tree.File.TheVariants as file
 use Rattle.design_lexer.specs.declared.tree.ParamTree.{ParamTree}
-use Rattle.design_lexer.specs.declared.tree.PortTree.{PortTree}
-use Rattle.design_lexer.specs.declared.tree.Side.{Side}
 use Rattle.fault_list.specs.declared.fault.FileFault.{FileFault}
-use Rattle.fault_list.specs.Answers.{Answers}
-use Rattle.fault_list.specs.FaultLaws.{none_left}
-use Rattle.fault_list.specs.Faults.{first_fault}
-use Rattle.fault_list.specs.declared.fault.Stop.{Stop}
-use Rattle.fault_list.specs.declared.fault.Stop.TheVariants as stop
 use Rattle.name_index.specs.Names.{number_of}
 use Rattle.name_index.specs.Places.{place_of}
 use Rattle.std.specs.Str.{bytes_eq}
-use Rattle.name_rules.specs.Sizes.{IsSmall, IsSmallBody}
-use Rattle.name_rules.specs.Twice.{same_side}
+use Rattle.name_rules.specs.Sizes.{IsSmall}
 use Rattle.name_table.specs.Library.{AreSmall}
+use Rattle.name_table.specs.SmallLaws.{small_at}
 use Rattle.name_table.specs.declared.source.SourceFile.{SourceFile}
-use Rattle.order_core.specs.MemberLaws.{got_member}
-use Rattle.order_core.specs.Members.{IsMember}
-use Rattle.order_core.specs.PointwiseLaws.{each_got}
-use Rattle.tree_units.specs.Ports.{port_of}
-use Rattle.unit_check.proofs.NetLemmas.{small_prop}
+use Rattle.side_ports.specs.Held.{sides_held}
+use Rattle.side_ports.specs.Sides.{sides_of}
+use Rattle.side_ports.specs.declared.ports.SidePorts.{SidePorts}
 use Rattle.unit_check.proofs.PlaceLemmas.{position_mapped}
-use Rattle.unit_check.proofs.RestLemmas.{none_right}
-use Rattle.unit_check.specs.Declaring.{declaring, params_of, part_file, parts_of, ports_at, ports_in, tree_ports}
+use Rattle.unit_check.specs.Declaring.{declaring, params_of, parts_of, ports_at, ports_in, tree_ports}
 use Rattle.unit_check.specs.Following.{AreDeclaring}
-use Rattle.unit_check.specs.Held.{IsKnown, IsTable, part_held, sides_held}
-use Rattle.unit_check.specs.Scopes.{PartPorts, if_there, part_scope, scope_at, side_ports, sides_of}
-use Rattle.unit_check.specs.TypeFaults.{declared_by, declared_faults, file_port_faults, file_rule_faults, named_faults, part_faults, rule_faults_from, scope_faults}
-use Rattle.unit_check.specs.declared.ports.SidePorts.{SidePorts}
+use Rattle.unit_check.specs.Held.{IsKnown, IsTable, part_held}
+use Rattle.unit_check.specs.Scopes.{PartPorts, part_scope, scope_at}
+use Rattle.unit_check.specs.TypeFaults.{declared_by, declared_faults, file_port_faults, file_rule_faults, part_faults, rule_faults_from, scope_faults}
 use Rattle.unit_check.specs.declared.scope.ScopePart.{ScopePart}
 use Rattle.unit_check.specs.declared.table.PortTable.{PortTable}
-use Rattle.value_type.specs.declared.port.Port.{Port}
 use Rattle.value_type.specs.declared.poset.Types.{Types}
-
--- ---- how many ports there are
-
-filter_at_most : {A : Type 0} (p : A → Bool) (xs : List A) → length (filter p xs) ≤ length xs
-filter_at_most p [] = omega arith
-filter_at_most {A = A} p (x ∷ xs) = go (p x) (filter_at_most p xs)
-  where
-    go : (t : Bool) → length (filter p xs) ≤ length xs → length (cond t (x ∷ filter p xs) (filter p xs)) ≤ length (x ∷ xs)
-    go true l = omega (arith, l)
-    go false l = omega (arith, l)
-
-there_at_most : {A B : Type 0} (f : A → Option B) (xs : List A) → length (flat_map (λ x. if_there (f x)) xs) ≤ length xs
-there_at_most f [] = omega arith
-there_at_most {B = B} f (x ∷ xs) = go (f x) (there_at_most f xs)
-  where
-    go : (o : Option B) → length (flat_map (λ x. if_there (f x)) xs) ≤ length xs → length (if_there o ++ flat_map (λ x. if_there (f x)) xs) ≤ length (x ∷ xs)
-    go (Some y) l = omega (arith, l)
-    go None l = omega (arith, l)
-
-left_at_most : {A : Type 0} (xs ys : List A) → length xs ≤ length (xs ++ ys)
-left_at_most [] ys = omega arith
-left_at_most (x ∷ xs) ys = let l = left_at_most xs ys in omega (arith, l)
-
--- The ports of one side that were found so far are no more than there are trees.
-pub side_few : (posets : List ℕ → Option ℕ) (side : Side) (trees : List PortTree) (made rest : List Port) → side_ports posets side trees ≡ made ++ rest → length trees < 2 ^ 32 → length made < 2 ^ 32
-side_few posets side trees made rest e few =
-    let all = there_at_most (port_of posets) (filter (λ p. same_side side p.side) trees) in
-    let some = filter_at_most (λ (p : PortTree). same_side side p.side) trees in
-    let left = subst (λ (ports : List Port). length made ≤ length ports) (sym e) (left_at_most made rest) in
-    omega (arith, all, some, left, few)
-
-body_few : (b : BodyTree) → IsSmallBody b → length (ports_in (file.Design b)) < 2 ^ 32
-body_few (body.Catalogue ports rows table) small = small.0
-body_few (body.Choose branches) small = omega arith
-body_few (body.Net ports parts rules) small = small.0
-
--- A small file declares few ports.
-pub ports_few : (f : File) → IsSmall f → length (ports_in f) < 2 ^ 32
-ports_few (file.Poset poset) small = omega arith
-ports_few (file.Interface ports) small = small
-ports_few (file.Design b) small = body_few b small
-ports_few (file.Template params b) small = body_few b small.1
-
--- A small file has few parameters.
-pub params_few : (f : File) → IsSmall f → length (params_of f) < 2 ^ 32
-params_few (file.Poset poset) small = omega arith
-params_few (file.Interface ports) small = omega arith
-params_few (file.Design b) small = omega arith
-params_few (file.Template params b) small = small.0
-
-body_parts_few : (b : BodyTree) → IsSmallBody b → length (parts_of (file.Design b)) < 2 ^ 32
-body_parts_few (body.Catalogue ports rows table) small = omega arith
-body_parts_few (body.Choose branches) small = small
-body_parts_few (body.Net ports parts rules) small = small.1
-
--- A small file has few branches or instances.
-pub parts_few : (f : File) → IsSmall f → length (parts_of f) < 2 ^ 32
-parts_few (file.Poset poset) small = omega arith
-parts_few (file.Interface ports) small = omega arith
-parts_few (file.Design b) small = body_parts_few b small
-parts_few (file.Template params b) small = body_parts_few b small.1
-
--- Each file of a library is small.
-pub small_at : (files : List SourceFile) (i : ℕ) (f : SourceFile) → ∥ AreSmall files ∥₁ → slice_get files i ≡ Some f → IsSmall f.tree
-small_at files i f small e = ∥∥₁_elim small (small_prop f.tree) (λ each. each_got (λ (g : SourceFile). IsSmall g.tree) files f each (got_member files i f e))
-
--- A check that can't find a fault stops for want of memory alone.
-pub stopped_none : {A B F : Type 0} (faults whole : List F) (Meant : A → Type 0) (Told : B → Type 0) (s : Stop F) → faults ≡ [] → Answers {A = A} faults Meant (Err s) → Answers {A = B} whole Told (Err s)
-stopped_none faults whole Meant Told (stop.At fault) e h = let none = sym h ∙ ap first_fault e in absurd (cc)
-stopped_none faults whole Meant Told stop.Memory e h = tt
 
 -- A file is the one at its place.
 pub same_file : (files : List SourceFile) (i : ℕ) (f g : SourceFile) → slice_get files i ≡ Some f → g ≡ get_or files i g → i < length files → g ≡ f
@@ -183,33 +97,3 @@ module _ (files : List SourceFile) (types : Types) where
 
   pub rules_next : (whole : List FileFault) (k : ℕ) (f : SourceFile) → k < length files → f ≡ get_or files k f → whole ≡ rule_faults_from files types k (drop k files) → whole ≡ file_rule_faults files types k f ++ rule_faults_from files types (k + 1) (drop (k + 1) files)
   rules_next whole k f inside is left = left ∙ ap (rule_faults_from files types k) (drop_more files k f inside ∙ ap (λ (y : SourceFile). y ∷ drop (k + 1) files) (sym is))
-
-  -- ---- faults of ports
-
-  none_member : {A F : Type 0} (faults : A → List F) (xs : List A) (x : A) → flat_map faults xs ≡ [] → IsMember x xs → faults x ≡ []
-  none_member faults [] x e m = absurd m
-  none_member {F = F} faults (y ∷ ys) x e (inl is) = subst (λ z. faults z ≡ []) (sym is) (none_left (faults y) (flat_map faults ys) e)
-  none_member faults (y ∷ ys) x e (inr m) = none_member faults ys x (none_right (faults y) (flat_map faults ys) e) m
-
-  module _ (none : flat_map (file_port_faults types) files ≡ []) where
-    declared_none : (i : ℕ) → declared_faults files types i ≡ []
-    declared_none i = go (slice_get files i) refl
-      where
-        go : (o : Option SourceFile) → slice_get files i ≡ o → declared_by types o ≡ []
-        go (Some f) e = none_member (file_port_faults types) files f none (got_member files i f e)
-        go None e = refl
-
-    part_none : (params : List ParamTree) (part : BranchTree) → part_faults files types params part ≡ []
-    part_none params part = go (part_file files params part)
-      where
-        go : (o : Option ℕ) → named_faults files types o ≡ []
-        go (Some k) = declared_none (declaring files k)
-        go None = refl
-
-    parts_none : (params : List ParamTree) (parts : List BranchTree) → flat_map (part_faults files types params) parts ≡ []
-    parts_none params [] = refl
-    parts_none params (part ∷ parts) = ap (λ (fs : List FileFault). fs ++ flat_map (part_faults files types params) parts) (part_none params part) ∙ parts_none params parts
-
-    -- Where no port of the library has a fault, none in a scope has.
-    pub scope_none : (i : ℕ) (f : File) → scope_faults files types i f ≡ []
-    scope_none i f = ap (λ (fs : List FileFault). fs ++ flat_map (part_faults files types (params_of f)) (parts_of f)) (declared_none (declaring files i)) ∙ parts_none (params_of f) (parts_of f)

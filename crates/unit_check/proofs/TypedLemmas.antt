@@ -19,13 +19,14 @@ use Rattle.expr_lower.specs.declared.meaning.Lower.{Lower}
 use Rattle.expr_lower.specs.declared.meaning.Meaning.{Meaning}
 use Rattle.fault_list.specs.FaultLaws.{none_left}
 use Rattle.fault_list.specs.Faults.{fault_if, fault_unless}
+use Rattle.fault_list.specs.RestLaws.{none_right}
 use Rattle.fault_list.specs.declared.fault.Fault.{Fault}
 use Rattle.name_index.specs.Places.{place_of}
 use Rattle.order_core.specs.Pointwise.{Each}
-use Rattle.unit_check.proofs.RestLemmas.{none_right}
+use Rattle.side_ports.specs.Sides.{Sides, port_at}
 use Rattle.unit_check.specs.Constraints.{constraint_by, constraint_of, constraints_of, scope_wiring}
 use Rattle.unit_check.specs.Rules.{rule_faults, rules_faults, side_faults, sides_differ}
-use Rattle.unit_check.specs.Scopes.{PartPorts, ScopePorts, Sides, Target, inner_read, inner_target, own_read, own_target, part_at, port_at, readable, readable_by, target, target_by}
+use Rattle.unit_check.specs.Scopes.{PartPorts, ScopePorts, Target, inner_read, inner_target, own_read, own_target, part_at, readable, readable_by, target, target_by}
 use Rattle.value_type.specs.PortKinds.{port_kinds}
 use Rattle.value_type.specs.SameForm.{same_kind}
 use Rattle.value_type.specs.SameFormLaws.{same_form_itself, same_kind_is}

@@ -10,6 +10,7 @@ use Rattle.expr_lower.specs.Literals.{literal_faults, poset_named}
 use Rattle.expr_lower.specs.Literals as literals
 use Rattle.fault_list.specs.FaultLaws.{none_by_place, none_left}
 use Rattle.fault_list.specs.Faults.{fault_if, fault_unless, in_file, named}
+use Rattle.fault_list.specs.RestLaws.{none_right}
 use Rattle.fault_list.specs.declared.fault.Fault.{Fault}
 use Rattle.fault_list.specs.declared.fault.FaultKind.TheVariants.{Unknown}
 use Rattle.name_index.specs.PlaceLaws.{position_there}
@@ -29,7 +30,6 @@ use Rattle.order_core.specs.PointwiseLaws.{each_weaker}
 use Rattle.tree_units.specs.Elements.{element_place, unknown_elements}
 use Rattle.tree_units.specs.Elements as element_names
 use Rattle.unit_check.proofs.PlaceLemmas.{position_mapped}
-use Rattle.unit_check.proofs.RestLemmas.{none_right}
 use Rattle.value_type.specs.declared.poset.Poset.{Poset}
 use Rattle.value_type.specs.declared.poset.Types.{Types}
 

@@ -2,6 +2,7 @@
 use Rattle.std.specs.Prelude.{ℕ, Bool, true, false, ◌&&◌, not, List, [], ◌∷◌, ◌++◌, Option, Some, None}
 use Rattle.std.specs.List.{flat_map, list_all, list_any}
 use Rattle.std.specs.Str.{bytes_eq}
+use Rattle.design_lexer.specs.Sides.{same_side}
 use Rattle.design_lexer.specs.declared.tree.BodyTree.{BodyTree}
 use Rattle.design_lexer.specs.declared.tree.BodyTree.TheVariants as body
 use Rattle.design_lexer.specs.declared.tree.BranchTree.{BranchTree}
@@ -21,7 +22,6 @@ use Rattle.fault_list.specs.Faults.{fault_if, in_file}
 use Rattle.fault_list.specs.declared.fault.Fault.{Fault}
 use Rattle.fault_list.specs.declared.fault.FaultKind.TheVariants.{Unconnected}
 use Rattle.fault_list.specs.declared.fault.FileFault.{FileFault}
-use Rattle.name_rules.specs.Twice.{same_side}
 use Rattle.name_table.specs.declared.source.SourceFile.{SourceFile}
 use Rattle.unit_check.specs.Declaring.{part_ports}
 

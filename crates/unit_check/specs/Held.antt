@@ -1,18 +1,17 @@
 -- What scopes hold, and what is known of the ports of files.
 use Rattle.std.specs.Prelude.{◌≡◌, ℕ, List, [], length, map, Some, slice_get}
 use Rattle.name_table.specs.declared.source.SourceFile.{SourceFile}
+use Rattle.side_ports.specs.Held.{sides_held}
+use Rattle.side_ports.specs.Sides.{sides_of}
+use Rattle.side_ports.specs.declared.ports.SidePorts.{SidePorts}
 use Rattle.unit_check.specs.Declaring.{tree_ports}
 use Rattle.unit_check.specs.Following.{AreDeclaring}
-use Rattle.unit_check.specs.Scopes.{PartPorts, ScopePorts, Sides, sides_of}
+use Rattle.unit_check.specs.Scopes.{PartPorts, ScopePorts}
 use Rattle.unit_check.specs.TypeFaults.{declared_faults}
-use Rattle.unit_check.specs.declared.ports.SidePorts.{SidePorts}
 use Rattle.unit_check.specs.declared.scope.Scope.{Scope}
 use Rattle.unit_check.specs.declared.scope.ScopePart.{ScopePart}
 use Rattle.unit_check.specs.declared.table.PortTable.{PortTable}
 use Rattle.value_type.specs.declared.poset.Types.{Types}
-
-abbrev pub sides_held : SidePorts → Sides
-sides_held ports = record { provides = ports.provides; requires_ = ports.requires_ }
 
 abbrev pub part_held : ScopePart → PartPorts
 part_held part = record { name = part.name; ports = sides_held part.ports }

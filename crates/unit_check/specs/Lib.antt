@@ -7,6 +7,7 @@ pub mod Following
 pub mod Held
 pub mod Marks
 pub mod Named
+pub mod PortLaws
 pub mod Rules
 pub mod Scopes
 pub mod Told

@@ -1,5 +1,5 @@
 -- What is wrong with the rules of a net.
-use Rattle.std.specs.Prelude.{ℕ, Bool, false, ◌||◌, is_some, not, List, [], ◌++◌, Option, Some, None, option_map}
+use Rattle.std.specs.Prelude.{ℕ, Bool, false, not, List, [], ◌++◌, Option, Some, None, option_map}
 use Rattle.std.specs.List.{flat_map}
 use Rattle.design_lexer.specs.declared.tree.NameAt.{NameAt}
 use Rattle.design_lexer.specs.declared.tree.PlaceTree.{PlaceTree}
@@ -11,7 +11,8 @@ use Rattle.expr_lower.specs.declared.meaning.Lower.{Lower}
 use Rattle.fault_list.specs.Faults.{fault_if, fault_unless}
 use Rattle.fault_list.specs.declared.fault.Fault.{Fault}
 use Rattle.fault_list.specs.declared.fault.FaultKind.TheVariants.{Mismatch}
-use Rattle.unit_check.specs.Scopes.{ScopePorts, Sides, Target, part_at, port_at, readable, target}
+use Rattle.side_ports.specs.Sides.{Sides, has_port}
+use Rattle.unit_check.specs.Scopes.{ScopePorts, Target, part_at, readable, target}
 use Rattle.value_type.specs.SameForm.{same_kind}
 use Rattle.value_type.specs.declared.poset.Types.{Types}
 
@@ -23,10 +24,6 @@ sides_differ place = record { kind = Mismatch; at = place.first.at }
 abbrev pub side_faults : PlaceTree → Option Target → Option Lower → List Fault
 side_faults place (Some t) (Some l) = fault_if (not (same_kind t.kind l.kind)) (sides_differ place)
 side_faults place _ _ = []
-
--- One of the sides has a port of this name.
-abbrev pub has_port : Sides → List ℕ → Bool
-has_port sides name = is_some (port_at sides.provides name) || is_some (port_at sides.requires_ name)
 
 abbrev pub part_has_port : Option (ℕ × Sides) → List ℕ → Bool
 part_has_port (Some part) name = has_port part.1 name

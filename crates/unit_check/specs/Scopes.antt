@@ -1,40 +1,20 @@
 -- The ports that the rules of a file may name, and what its expressions may read.
-use Rattle.std.specs.Prelude.{ℕ, List, [], ◌∷◌, filter, map, Option, Some, None, option_and_then, option_map, slice_get}
-use Rattle.std.specs.List.{flat_map}
+use Rattle.std.specs.Prelude.{ℕ, List, map, Option, Some, None, option_and_then, option_map, slice_get}
 use Rattle.design_lexer.specs.declared.tree.BranchTree.{BranchTree}
 use Rattle.design_lexer.specs.declared.tree.File.{File}
 use Rattle.design_lexer.specs.declared.tree.NameAt.{NameAt}
 use Rattle.design_lexer.specs.declared.tree.ParamTree.{ParamTree}
 use Rattle.design_lexer.specs.declared.tree.PlaceTree.{PlaceTree}
-use Rattle.design_lexer.specs.declared.tree.PortTree.{PortTree}
-use Rattle.design_lexer.specs.declared.tree.Side.{Side}
-use Rattle.design_lexer.specs.declared.tree.Side.TheVariants.{Provides, Requires}
 use Rattle.design_model.specs.declared.expr.Expr.TheVariants as expr
 use Rattle.design_model.specs.declared.expr.Greater.{Greater}
 use Rattle.design_model.specs.declared.expr.Greater.TheVariants as greater
 use Rattle.expr_lower.specs.declared.meaning.Lower.{Lower}
 use Rattle.name_index.specs.Places.{place_of}
-use Rattle.name_rules.specs.Twice.{same_side}
 use Rattle.name_table.specs.declared.source.SourceFile.{SourceFile}
-use Rattle.tree_units.specs.Ports.{port_of}
-use Rattle.tree_units.specs.Posets.{poset_place}
+use Rattle.side_ports.specs.Sides.{Sides, port_at, sides_of}
 use Rattle.unit_check.specs.Declaring.{params_of, part_ports, parts_of, ports_at}
 use Rattle.value_type.specs.declared.kind.Kind.{Kind}
-use Rattle.value_type.specs.declared.port.Port.{Port}
 use Rattle.value_type.specs.declared.poset.Types.{Types}
-
-abbrev pub if_there : {A : Type 0} → Option A → List A
-if_there (Some x) = x ∷ []
-if_there None = []
-
--- the ports of one side that have no fault, in order
-abbrev pub side_ports : (List ℕ → Option ℕ) → Side → List PortTree → List Port
-side_ports posets side ports = flat_map (λ p. if_there (port_of posets p)) (filter (λ p. same_side side p.side) ports)
-
--- Ports by their sides.
-pub record Sides : Type 0 where
-  pub provides : List Port
-  pub requires_ : List Port
 
 -- A branch or an instance, with the ports of what it names.
 pub record PartPorts : Type 0 where
@@ -46,12 +26,6 @@ pub record ScopePorts : Type 0 where
   pub own : Sides
   pub parts : List PartPorts
 
-abbrev pub sides_of : Types → List PortTree → Sides
-sides_of types ports = record {
-  provides = side_ports (poset_place types) Provides ports;
-  requires_ = side_ports (poset_place types) Requires ports;
-}
-
 abbrev pub part_scope : List SourceFile → Types → List ParamTree → BranchTree → PartPorts
 part_scope files types params part = record { name = part.name.name; ports = sides_of types (part_ports files params part) }
 
@@ -61,10 +35,6 @@ scope_at files types i f = record {
   own = sides_of types (ports_at files i);
   parts = map (part_scope files types (params_of f)) (parts_of f);
 }
-
--- the number of the first port of this name, and its type
-abbrev pub port_at : List Port → List ℕ → Option (ℕ × Kind)
-port_at ports name = option_and_then (λ j. option_map (λ port. (j, port.kind)) (slice_get ports j)) (place_of (λ p. p.name) ports name)
 
 -- the number of the first part of this name, and its ports
 abbrev pub part_at : List PartPorts → List ℕ → Option (ℕ × Sides)

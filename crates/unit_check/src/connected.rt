@@ -1,10 +1,10 @@
 ghost use Rattle.std.specs.Prelude.{◌≡◌, ◌<◌, ◌&&◌, length, not, is_some};
 ghost use Rattle.std.specs.List.{flat_map, list_all};
+ghost use Rattle.design_lexer.specs.Sides.{same_side};
 ghost use Rattle.fault_list.specs.Answers.{Answers};
 ghost use Rattle.fault_list.specs.Faults.{fault_if};
 ghost use Rattle.fault_list.specs.declared.fault.Stop.TheVariants.{At};
 ghost use Rattle.name_index.specs.Names.{number_of};
-ghost use Rattle.name_rules.specs.Twice.{same_side};
 ghost use Rattle.name_table.specs.Stems.{has_element};
 ghost use Rattle.unit_check.specs.Connection.{unconnected};
 ghost use Rattle.unit_check.specs.Declaring.{body_ports, part_ports, ports_at, ports_in};

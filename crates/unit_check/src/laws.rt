@@ -1,36 +1,30 @@
 //! What holds of the ports of files and the types of rules. Each law is the promise of a function that does nothing.
 
-ghost use Rattle.std.specs.Prelude.{◌≡◌, ◌∷◌, ℕ, IsTrue, List, None, Some, [], filter, slice_get};
-ghost use Rattle.std.specs.List.{flat_map, list_all};
+ghost use Rattle.std.specs.Prelude.{◌≡◌, ◌∷◌, ℕ, List, None, Some, [], slice_get};
 ghost use Rattle.design_lexer.specs.declared.tree.ExprTree.{ExprTree};
 ghost use Rattle.design_lexer.specs.declared.tree.PlaceTree.{PlaceTree};
-ghost use Rattle.design_lexer.specs.declared.tree.PortTree.{PortTree};
 ghost use Rattle.design_lexer.specs.declared.tree.RuleTree.{RuleTree};
 ghost use Rattle.design_lexer.specs.declared.tree.RuleTree.TheVariants as rule;
-ghost use Rattle.design_lexer.specs.declared.tree.Side.{Side};
-ghost use Rattle.design_model.specs.Typed.{ConstraintIsTyped, IsTyped, is_port};
+ghost use Rattle.design_model.specs.Typed.{ConstraintIsTyped, IsTyped};
 ghost use Rattle.design_model.specs.declared.design.Design.TheVariants as design;
 ghost use Rattle.design_model.specs.declared.design.Part.{Part};
 ghost use Rattle.design_model.specs.declared.expr.Constraint.{Constraint};
 ghost use Rattle.fault_list.specs.declared.fault.FaultKind.TheVariants.{Unknown};
 ghost use Rattle.fault_list.specs.declared.fault.FileFault.{FileFault};
 ghost use Rattle.name_table.specs.declared.source.SourceFile.{SourceFile};
-ghost use Rattle.name_rules.specs.Twice.{same_side};
 ghost use Rattle.order_core.specs.Members.{IsMember};
-ghost use Rattle.order_core.specs.Pointwise.{Each, Pointwise};
-ghost use Rattle.tree_units.specs.Ports.{port_faults, port_of};
-ghost use Rattle.tree_units.specs.Posets.{poset_place};
+ghost use Rattle.order_core.specs.Pointwise.{Each};
 ghost use Rattle.unit_check.specs.Constraints.{FitParts, constraint_of, constraints_of, scope_wiring};
 ghost use Rattle.unit_check.specs.Declaring.{choice_of, declaring, next_file, ports_at, ports_in};
 ghost use Rattle.unit_check.specs.Rules.{rule_faults, rules_faults};
-ghost use Rattle.unit_check.specs.Scopes.{ScopePorts, scope_at, side_ports};
+ghost use Rattle.unit_check.specs.Scopes.{ScopePorts, scope_at};
 ghost use Rattle.unit_check.specs.TypeFaults.{rules_of, type_faults};
 ghost use Rattle.value_type.specs.Types.{AreNamed};
 ghost use Rattle.value_type.specs.declared.poset.Types.{Types};
 
 use expr_lower::{expressions_are_typed, expressions_have_meanings_or_faults};
 use name_table::Names;
-use tree_units::{ports_are_whole, ports_have_meanings_or_faults};
+use tree_units::ports_are_whole;
 
 /// A choice has the ports of what its first branch names, and every other file its own: the way from a choice to its
 /// first branch ends.
@@ -49,16 +43,6 @@ pub fn rules_are_typed()
 {
     expressions_have_meanings_or_faults();
     expressions_are_typed();
-}
-
-/// Each port of a side names posets that are there, and its unit has the form of its type. Where no port has a fault,
-/// none is lost: the ports of a side are those that its trees write, in order.
-pub fn ports_are_typed()
-    ensures typed { (types : Types) (side : Side) (trees : List PortTree) → IsTrue (list_all (is_port types) (side_ports (poset_place types) side trees)) }
-    ensures written { (types : Types) (side : Side) (trees : List PortTree) → flat_map (port_faults (poset_place types)) trees ≡ [] → Pointwise (λ tree port. port_of (poset_place types) tree ≡ Some port) (filter (λ tree. same_side side tree.side) trees) (side_ports (poset_place types) side trees) }
-{
-    ports_are_whole();
-    ports_have_meanings_or_faults();
 }
 
 /// A net whose rules have no fault is a typed design with any typed designs as its parts that have the types of ports

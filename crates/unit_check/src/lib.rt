@@ -9,7 +9,6 @@ mod marks;
 mod named;
 mod parameters;
 mod places;
-mod ports;
 mod rules;
 mod scope;
 mod shared;
@@ -20,9 +19,9 @@ pub use connection::check_connected;
 pub use declared::declaring_files;
 pub use laws::{
     choices_have_the_ports_of_their_first_branch, names_leave_nothing_unknown, nets_are_typed,
-    ports_are_typed, rules_are_typed,
+    rules_are_typed,
 };
-pub use ports::SidePorts;
+pub use parameters::Parameters;
 pub use scope::{Scope, ScopePart};
 pub use shared::Shared;
 pub use table::PortTable;

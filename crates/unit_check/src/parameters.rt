@@ -1,4 +1,4 @@
-ghost use Rattle.std.specs.Prelude.{◌≡◌, ◌<◌, ◌^◌, ℕ, List, IfOk, length};
+ghost use Rattle.std.specs.Prelude.{◌≡◌, ◌<◌, ◌^◌, ℕ, List, IfOk, is_some, length};
 ghost use Rattle.std.specs.Option.{option_copied};
 ghost use Rattle.name_index.specs.Names.{number_of};
 ghost use Rattle.name_index.specs.Places.{named_item, place_of};
@@ -27,6 +27,13 @@ impl<'a> Parameters<'a> {
     {
         let numbers = places_of(alloc, trees)?;
         Ok(Parameters { trees, numbers })
+    }
+
+    /// Whether a parameter has this name.
+    pub fn has(&self, name: &str) -> bool
+        ensures { result ≡ is_some (place_of (λ p. p.name.name) self.now.trees.now name.now) }
+    {
+        self.numbers.get(name).is_some()
     }
 
     /// The first parameter of this name.

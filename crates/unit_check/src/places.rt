@@ -1,14 +1,15 @@
 ghost use Rattle.std.specs.Prelude.{◌≡◌, option_map};
-ghost use Rattle.unit_check.specs.Held.{ports_held, sides_held};
+ghost use Rattle.side_ports.specs.Held.{sides_held};
+ghost use Rattle.unit_check.specs.Held.{ports_held};
 ghost use Rattle.unit_check.specs.Rules.{is_port};
 ghost use Rattle.unit_check.specs.Scopes.{part_at, readable, target};
 
-use crate::ports::SidePorts;
 use crate::scope::Scope;
 use design_lexer::PlaceTree;
 use design_model::{Expr, Greater};
 use expr_lower::{Lower, Readable};
 use order_core::NoMemory;
+use side_ports::SidePorts;
 use std::alloc::Global;
 use value_type::Kind;
 

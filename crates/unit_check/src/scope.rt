@@ -2,10 +2,10 @@ ghost use Rattle.std.specs.Prelude.{◌≡◌, ℕ, List};
 ghost use Rattle.name_index.specs.Names.{number_of};
 ghost use Rattle.name_index.specs.Places.{place_of};
 
-use crate::ports::SidePorts;
 use crate::shared::Shared;
 use name_index::NameIndex;
 use order_core::{List, Text};
+use side_ports::SidePorts;
 
 /// A branch or an instance, with the ports of what it names. Parts that name one thing share them.
 #[derive(Drop)]

@@ -4,18 +4,19 @@ ghost use Rattle.fault_list.specs.Answers.{Answers};
 ghost use Rattle.name_rules.specs.Sizes.{IsSmall};
 ghost use Rattle.name_table.specs.References.{branches_of};
 ghost use Rattle.name_table.specs.declared.source.SourceFile.{SourceFile};
+ghost use Rattle.side_ports.specs.Held.{sides_held};
+ghost use Rattle.side_ports.specs.Sides.{sides_of};
 ghost use Rattle.tree_units.specs.Ports.{port_faults};
 ghost use Rattle.tree_units.specs.Posets.{poset_place};
-ghost use Rattle.unit_check.specs.Declaring.{declaring, ports_at, ports_in, tree_ports};
+ghost use Rattle.unit_check.specs.Declaring.{declaring, named_file, ports_at, ports_in, ports_of, tree_ports};
 ghost use Rattle.unit_check.specs.Declaring as spec;
-ghost use Rattle.unit_check.specs.Held.{IsTable, part_held, ports_held, sides_held};
-ghost use Rattle.unit_check.specs.Scopes.{part_scope, scope_at, sides_of};
-ghost use Rattle.unit_check.specs.TypeFaults.{declared_faults, file_port_faults, part_faults, scope_faults};
+ghost use Rattle.unit_check.specs.Held.{IsTable, part_held, ports_held};
+ghost use Rattle.unit_check.specs.Scopes.{part_scope, scope_at};
+ghost use Rattle.unit_check.specs.TypeFaults.{declared_faults, file_port_faults, named_faults, part_faults, scope_faults};
 
 use crate::connected::ports_in;
 use crate::declared::declaring_files;
 use crate::parameters::Parameters;
-use crate::ports::{SidePorts, side_ports};
 use crate::scope::{Scope, ScopePart};
 use crate::shared::Shared;
 use design_lexer::{BodyTree, BranchTree, File, ParamTree, PortTree};
@@ -23,6 +24,7 @@ use fault_list::{Fault, StageFault, Stop, in_file};
 use name_rules::places_of;
 use name_table::{Names, SourceFile};
 use order_core::{List, NoMemory};
+use side_ports::{SidePorts, side_ports};
 use std::alloc::Global;
 
 /// The ports of a library's files. Those of a file are worked out when they are first asked for, and shared from then on.
@@ -101,6 +103,24 @@ impl PortTable {
         self.declared(alloc, names, declaring)
     }
 
+    /// The ports that a name stands for, or the first of their faults.
+    pub fn ports_named(
+        &mut self,
+        alloc: Global,
+        names: &Names,
+        params: &Parameters,
+        name: &str,
+    ) -> Result<Shared<SidePorts>, StageFault>
+        requires table { IsTable names.now.files names.now.types self.old }
+        ensures table { IsTable names.now.files names.now.types self.new }
+        ensures answer { Answers (named_faults names.now.files names.now.types (named_file names.now.files params.now.trees.now name.now)) (λ ports. sides_held ports ≡ sides_of names.now.types (ports_of names.now.files (named_file names.now.files params.now.trees.now name.now))) result }
+    {
+        match params.file(names, name) {
+            Some(file) => self.ports(alloc, names, file),
+            None => Ok(no_ports(alloc)?),
+        }
+    }
+
     /// The ports of a branch or an instance, or the first of their faults: those of what its reference names.
     fn part_ports(
         &mut self,
@@ -113,10 +133,7 @@ impl PortTable {
         ensures table { IsTable names.now.files names.now.types self.new }
         ensures answer { Answers (part_faults names.now.files names.now.types params.now.trees.now part.now) (λ ports. sides_held ports ≡ sides_of names.now.types (spec.part_ports names.now.files params.now.trees.now part.now)) result }
     {
-        match params.file(names, part.reference.name.name.as_str()) {
-            Some(file) => self.ports(alloc, names, file),
-            None => Ok(no_ports(alloc)?),
-        }
+        self.ports_named(alloc, names, params, part.reference.name.name.as_str())
     }
 
     /// The branches or instances of a file with their ports, or the first fault of these.

@@ -3,9 +3,10 @@ use design_lexer::{BodyTree, ExprTree, File, PortTree, RuleTree};
 use design_model::Expr;
 use fault_list::{FaultKind, StageFault};
 use name_table::port_of;
+use side_ports::SidePorts;
 use std::alloc::{AllocError, Global};
 use std::test::Fail;
-use unit_check::{Scope, SidePorts, lower_of, scope_of};
+use unit_check::{Scope, lower_of, scope_of};
 use value_type::{Kind, Port, PortUnit, Value};
 
 /// Interfaces of one port, and how it's shown, or what is first wrong with it.

@@ -1,6 +1,6 @@
 use Rattle.std.proofs.Common.{◌∙◌, sym}
+use Rattle.design_lexer.specs.Sides.{same_side}
 use Rattle.design_lexer.specs.declared.tree.PortTree.{PortTree}
-use Rattle.name_rules.specs.Twice.{same_side}
 use Rattle.name_rules.proofs.TwiceLemmas.{taken_next, left_out_next}
 use Rattle.name_rules.proofs.twice.note_twice_side.Goals as goal
 use Rattle.name_rules.proofs.twice.note_twice_side.Goals.{then-is_same+in_ok-note_again, else-is_same}

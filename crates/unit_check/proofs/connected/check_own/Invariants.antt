@@ -1,10 +1,10 @@
 use Rattle.std.proofs.Common.{◌≡◌, ◌&&◌, not, drop}
 use Rattle.std.specs.List.{flat_map}
 use Rattle.std.specs.Prelude.{is_some}
+use Rattle.design_lexer.specs.Sides.{same_side}
 use Rattle.design_lexer.specs.declared.tree.Side.TheVariants.{Requires}
 use Rattle.fault_list.specs.Faults.{fault_if}
 use Rattle.name_index.specs.Names.{number_of}
-use Rattle.name_rules.specs.Twice.{same_side}
 use Rattle.unit_check.specs.Connection.{unconnected}
 use Rattle.unit_check.proofs.connected.check_own.Given as goal
 

@@ -2,7 +2,7 @@ use Rattle.std.proofs.Common.{◌≡◌, ◌∙◌, ap, not, sym, true, false, B
 use Rattle.std.specs.List.{list_all}
 use Rattle.design_lexer.specs.declared.tree.BranchTree.{BranchTree}
 use Rattle.fault_list.specs.Faults.{fault_if}
-use Rattle.unit_check.proofs.RestLemmas.{rest_first, rest_none}
+use Rattle.fault_list.specs.RestLaws.{rest_first, rest_none}
 use Rattle.unit_check.specs.Connection.{unconnected}
 use Rattle.unit_check.specs.Declaring.{part_ports}
 use Rattle.unit_check.specs.Named.{connected_by}

@@ -1,5 +1,5 @@
 use Rattle.std.proofs.Common.{◌∙◌, sym}
-use Rattle.unit_check.proofs.PlaceLemmas.{named_file_below}
+use Rattle.unit_check.specs.PortLaws.{named_file_below}
 use Rattle.unit_check.proofs.connected.part_ports.Goals as goal
 
 pub ports_at-requires-clause-file : goal.ports_at-requires-clause-file

@@ -1,11 +1,11 @@
 use Rattle.std.proofs.Common.{subst, sym, List}
 use Rattle.std.proofs.Math.Logic.{∥∥₁_elim}
 use Rattle.name_rules.specs.Sizes.{IsSmall}
+use Rattle.name_table.specs.SmallLaws.{small_prop}
 use Rattle.name_table.specs.declared.source.SourceFile.{SourceFile}
 use Rattle.order_core.specs.MemberLaws.{member_at}
 use Rattle.order_core.specs.Members.{IsMember}
 use Rattle.order_core.specs.PointwiseLaws.{each_got}
-use Rattle.unit_check.proofs.NetLemmas.{small_prop}
 use Rattle.unit_check.proofs.connection.check_connected.Goals as goal
 
 pub check_file-requires-clause-small : goal.check_file-requires-clause-small

@@ -4,7 +4,7 @@ use Rattle.std.specs.Prelude.{Some}
 use Rattle.std.specs.Str.{bytes_eq}
 use Rattle.design_lexer.specs.declared.tree.ParamTree.{ParamTree}
 use Rattle.name_index.specs.Places.{named_item}
-use Rattle.unit_check.proofs.NamedLemmas.{named_item_next}
+use Rattle.name_index.specs.PlaceLaws.{named_item_next}
 use Rattle.unit_check.specs.Declaring.{file_of, named_file}
 use Rattle.unit_check.proofs.declared.named_file.Goals as goal
 

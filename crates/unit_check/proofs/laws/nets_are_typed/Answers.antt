@@ -2,8 +2,9 @@ use Rattle.std.specs.Prelude.{is_some, slice_get}
 use Rattle.design_model.specs.Typed.{IsTyped}
 use Rattle.design_model.specs.TypedLaws.{IsTyped-Net}
 use Rattle.order_core.specs.Pointwise.{Each}
+use Rattle.side_ports.specs.SideLaws.{sides_are_ports}
 use Rattle.tree_units.specs.Posets.{poset_place}
-use Rattle.unit_check.proofs.NetTypeLemmas.{net_typed, sides_are_ports}
+use Rattle.unit_check.proofs.NetTypeLemmas.{net_typed}
 use Rattle.unit_check.specs.Constraints.{constraints_of}
 use Rattle.unit_check.specs.Scopes.{scope_at}
 use Rattle.unit_check.specs.TypeFaults.{rules_of}

@@ -3,9 +3,9 @@ use Rattle.std.specs.List.{flat_map}
 use Rattle.design_lexer.specs.declared.tree.Side.TheVariants as side
 use Rattle.fault_list.specs.AnswersLaws.{answers_weaker}
 use Rattle.name_index.specs.Names.{number_of}
+use Rattle.side_ports.specs.Sides.{side_ports}
 use Rattle.tree_units.specs.Ports.{port_faults}
 use Rattle.tree_units.specs.Posets.{poset_place}
-use Rattle.unit_check.specs.Scopes.{side_ports}
 use Rattle.unit_check.proofs.table.sides_of.Goals as goal
 
 pub returns : goal.returns

@@ -3,8 +3,9 @@ use Rattle.std.proofs.lemmas.Result.{err_from_is_err_and}
 use Rattle.fault_list.specs.AnswersLaws.{stopped_same}
 use Rattle.fault_list.specs.FaultLaws.{stopped_in_file}
 use Rattle.fault_list.specs.Faults.{in_file}
-use Rattle.unit_check.proofs.ScopeLemmas.{scope_none, stopped_none}
+use Rattle.fault_list.specs.AnswersLaws.{stopped_none}
 use Rattle.unit_check.specs.Held.{ports_held}
+use Rattle.unit_check.specs.PortLaws.{scope_none}
 use Rattle.unit_check.specs.Rules.{rules_faults}
 use Rattle.unit_check.specs.Scopes.{scope_at}
 use Rattle.unit_check.specs.TypeFaults.{file_rule_faults, rules_of, scope_faults}

@@ -5,12 +5,12 @@ use Rattle.std.specs.Prelude.{slice_get}
 use Rattle.fault_list.specs.AnswersLaws.{stopped_left}
 use Rattle.fault_list.specs.declared.fault.FileFault.{FileFault}
 use Rattle.name_table.specs.declared.source.SourceFile.{SourceFile}
+use Rattle.side_ports.specs.Held.{sides_held}
+use Rattle.side_ports.specs.Sides.{sides_of}
+use Rattle.side_ports.specs.declared.ports.SidePorts.{SidePorts}
 use Rattle.unit_check.proofs.ScopeLemmas.{ports_next}
 use Rattle.unit_check.specs.Declaring.{tree_ports}
-use Rattle.unit_check.specs.Held.{sides_held}
-use Rattle.unit_check.specs.Scopes.{sides_of}
 use Rattle.unit_check.specs.TypeFaults.{declared_faults, file_port_faults}
-use Rattle.unit_check.specs.declared.ports.SidePorts.{SidePorts}
 use Rattle.unit_check.proofs.types.check_ports.Goals as goal
 
 pub returns-in_err-declared-clause-answer : goal.returns-in_err-declared-clause-answer

@@ -1,10 +1,10 @@
 use Rattle.std.proofs.Common.{◌∙◌, ap, sym, option_map, ℕ, Bor}
 use Rattle.std.specs.Option.{option_copied}
 use Rattle.std.specs.Prelude.{Option, Some}
+use Rattle.side_ports.specs.Held.{sides_held}
+use Rattle.side_ports.specs.Sides.{Sides}
+use Rattle.side_ports.specs.declared.ports.SidePorts.{SidePorts}
 use Rattle.unit_check.proofs.PlaceLemmas.{part_missing, part_past, part_there}
-use Rattle.unit_check.specs.Held.{sides_held}
-use Rattle.unit_check.specs.Scopes.{Sides}
-use Rattle.unit_check.specs.declared.ports.SidePorts.{SidePorts}
 use Rattle.unit_check.proofs.scope.Scope.part.Goals as goal
 
 abbrev held : ℕ × Bor SidePorts → ℕ × Sides

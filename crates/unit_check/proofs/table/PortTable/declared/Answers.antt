@@ -3,13 +3,14 @@ use Rattle.std.proofs.lemmas.Option.{slice_get_read}
 use Rattle.std.proofs.lemmas.Result.{err_from_is_err_and}
 use Rattle.std.specs.Prelude.{Option, Some, slice_get, slice_index_or, slice_set}
 use Rattle.fault_list.specs.AnswersLaws.{stopped_same}
+use Rattle.name_table.specs.SmallLaws.{small_at}
 use Rattle.name_table.specs.declared.source.SourceFile.{SourceFile}
-use Rattle.unit_check.proofs.ScopeLemmas.{kept, known_at, small_at}
+use Rattle.side_ports.specs.Held.{sides_held}
+use Rattle.side_ports.specs.Sides.{sides_of}
+use Rattle.side_ports.specs.declared.ports.SidePorts.{SidePorts}
+use Rattle.unit_check.proofs.ScopeLemmas.{kept, known_at}
 use Rattle.unit_check.specs.Declaring.{ports_in, tree_ports}
-use Rattle.unit_check.specs.Held.{sides_held}
-use Rattle.unit_check.specs.Scopes.{sides_of}
 use Rattle.unit_check.specs.TypeFaults.{declared_by, declared_faults, file_port_faults}
-use Rattle.unit_check.specs.declared.ports.SidePorts.{SidePorts}
 use Rattle.unit_check.proofs.table.PortTable.declared.Goals as goal
 
 pub declared_ports-requires : goal.declared_ports-requires

@@ -2,12 +2,14 @@ use Rattle.std.proofs.Common.{◌≡◌, ◌+◌, drop, map, List}
 use Rattle.std.proofs.lemmas.Result.{err_from_is_err_and}
 use Rattle.std.specs.List.{flat_map}
 use Rattle.fault_list.specs.AnswersLaws.{stopped_left}
-use Rattle.unit_check.proofs.RestLemmas.{made_next, rest_next, rest_none}
+use Rattle.fault_list.specs.RestLaws.{made_next, rest_next, rest_none}
+use Rattle.side_ports.specs.Held.{sides_held}
+use Rattle.side_ports.specs.Sides.{sides_of}
+use Rattle.side_ports.specs.declared.ports.SidePorts.{SidePorts}
 use Rattle.unit_check.specs.Declaring.{part_ports}
-use Rattle.unit_check.specs.Held.{part_held, sides_held}
-use Rattle.unit_check.specs.Scopes.{part_scope, sides_of}
+use Rattle.unit_check.specs.Held.{part_held}
+use Rattle.unit_check.specs.Scopes.{part_scope}
 use Rattle.unit_check.specs.TypeFaults.{part_faults}
-use Rattle.unit_check.specs.declared.ports.SidePorts.{SidePorts}
 use Rattle.unit_check.specs.declared.scope.ScopePart.{ScopePart}
 use Rattle.unit_check.proofs.table.PortTable.parts.Goals as goal
 

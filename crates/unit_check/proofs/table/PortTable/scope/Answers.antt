@@ -7,9 +7,11 @@ use Rattle.design_lexer.specs.declared.tree.BranchTree.{BranchTree}
 use Rattle.design_lexer.specs.declared.tree.ParamTree.{ParamTree}
 use Rattle.fault_list.specs.AnswersLaws.{stopped_same}
 use Rattle.name_index.specs.Places.{place_of}
-use Rattle.unit_check.proofs.ScopeLemmas.{file_small, params_few, parts_few, parts_numbered, same_file, scope_is, scope_rest}
+use Rattle.side_ports.specs.Held.{sides_held}
+use Rattle.unit_check.proofs.ScopeLemmas.{file_small, parts_numbered, same_file, scope_is, scope_rest}
 use Rattle.unit_check.specs.Declaring.{params_of, parts_of}
-use Rattle.unit_check.specs.Held.{part_held, ports_held, sides_held}
+use Rattle.unit_check.specs.Held.{part_held, ports_held}
+use Rattle.unit_check.specs.PortLaws.{params_few, parts_few}
 use Rattle.unit_check.specs.Scopes.{part_scope, scope_at}
 use Rattle.unit_check.specs.TypeFaults.{part_faults, scope_faults}
 use Rattle.unit_check.specs.declared.scope.Scope.{Scope}

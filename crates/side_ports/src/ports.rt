@@ -4,9 +4,8 @@ ghost use Rattle.design_lexer.specs.declared.tree.Side.TheVariants as side;
 ghost use Rattle.fault_list.specs.Answers.{Answers};
 ghost use Rattle.name_index.specs.Names.{number_of};
 ghost use Rattle.name_index.specs.Places.{place_of};
+ghost use Rattle.side_ports.specs.Sides.{has_port, port_at, side_ports};
 ghost use Rattle.tree_units.specs.Ports.{port_faults};
-ghost use Rattle.unit_check.specs.Rules.{has_port};
-ghost use Rattle.unit_check.specs.Scopes.{port_at, side_ports};
 
 use design_lexer::{PortTree, Side};
 use fault_list::{Fault, Stop};

@@ -2,9 +2,9 @@ use Rattle.std.proofs.Common.{◌≡◌, ◌++◌, drop}
 use Rattle.std.specs.List.{flat_map}
 use Rattle.design_lexer.specs.declared.tree.Side.TheVariants as side
 use Rattle.name_index.specs.Names.{number_of}
+use Rattle.side_ports.specs.Sides.{side_ports}
 use Rattle.tree_units.specs.Ports.{port_faults}
-use Rattle.unit_check.specs.Scopes.{side_ports}
-use Rattle.unit_check.proofs.ports.side_ports.Given as goal
+use Rattle.side_ports.proofs.ports.side_ports.Given as goal
 
 -- What is left decides, and follows on both sides.
 abbrev pub invariant-loop-tree : goal.invariant-loop-tree

@@ -1,10 +1,10 @@
 use Rattle.std.proofs.Common.{◌^◌, ◌<◌, length, subst, sym, List, drop}
 use Rattle.design_lexer.specs.declared.tree.Side.TheVariants as side
 use Rattle.name_index.specs.Names.{number_of}
-use Rattle.unit_check.proofs.ScopeLemmas.{side_few}
-use Rattle.unit_check.specs.Scopes.{side_ports}
+use Rattle.side_ports.specs.SideLaws.{side_few}
+use Rattle.side_ports.specs.Sides.{side_ports}
 use Rattle.value_type.specs.declared.port.Port.{Port}
-use Rattle.unit_check.proofs.ports.side_ports.Goals as goal
+use Rattle.side_ports.proofs.ports.side_ports.Goals as goal
 
 pub port_numbers-requires : goal.port_numbers-requires
 port_numbers-requires c = record {

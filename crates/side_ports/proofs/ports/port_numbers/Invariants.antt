@@ -1,7 +1,7 @@
 use Rattle.std.proofs.Common.{◌≡◌, take, List, ℕ}
 use Rattle.name_index.specs.Names.{number_of}
 use Rattle.name_index.specs.Places.{place_of}
-use Rattle.unit_check.proofs.ports.port_numbers.Given as goal
+use Rattle.side_ports.proofs.ports.port_numbers.Given as goal
 
 -- The names so far have their first places.
 abbrev pub invariant-loop-at : goal.invariant-loop-at

@@ -1,6 +1,6 @@
 use Rattle.name_index.specs.PlaceLaws.{places_more}
 use Rattle.value_type.specs.declared.port.Port.{Port}
-use Rattle.unit_check.proofs.ports.port_numbers.Goals as goal
+use Rattle.side_ports.proofs.ports.port_numbers.Goals as goal
 
 pub loop-at-preserved : goal.loop-at-preserved
 loop-at-preserved c =
