@@ -1,9 +1,9 @@
 -- A value that is meant is one of its type.
-use Rattle.std.proofs.Common.{◌≡◌, ◌∙◌, ◌*◌, ◌<◌, ◌≤◌, refl, sym, ap, subst, arith, ℕ, Bool, true, false, cond, IsTrue, List, [], ◌∷◌, map}
+use Rattle.std.proofs.Common.{◌≡◌, ◌∙◌, ◌*◌, ◌≤◌, refl, sym, ap, subst, arith, ℕ, Bool, true, false, cond, IsTrue, List, [], ◌∷◌, map}
 use Rattle.std.proofs.Math.Nat.{mul-le-mul_right}
 use Rattle.std.proofs.lemmas.Bool.{le-leb}
 use Rattle.std.specs.List.{list_all}
-use Rattle.std.specs.Prelude.{◌&&◌, Option, Some, None, option_and_then, option_map, slice_get}
+use Rattle.std.specs.Prelude.{Option, Some, None, option_and_then, option_map, slice_get}
 use Rattle.std.specs.Str.{bytes_eq}
 use Rattle.design_lexer.specs.declared.tree.ValueTree.{ValueTree, out-ValueTree}
 use Rattle.design_lexer.specs.declared.tree.ValueTree.TheOpen.{ValueTree-F}
@@ -12,20 +12,20 @@ use Rattle.design_model.specs.Typed.{row_is_typed}
 use Rattle.design_model.specs.declared.design.CatRow.{CatRow}
 use Rattle.expr_lower.specs.LiteralLaws.{element_is}
 use Rattle.expr_lower.specs.Literals.{element_place, elements_named}
-use Rattle.expr_lower.specs.Together.{together, with_first}
+use Rattle.expr_lower.specs.Together.{with_first}
 use Rattle.order_core.specs.MemberLaws.{all_got, both}
 use Rattle.order_core.specs.MinimalElements.{minimal_of}
 use Rattle.order_core.specs.MinimalElementsLaws.{minimal_of_upper}
 use Rattle.order_core.specs.Tuple.{are_values}
 use Rattle.row_values.specs.Rows.{cells_meant, row_meant, row_named, rows_meant}
-use Rattle.row_values.specs.Values.{count_meant, counted, each_meant, element_meant, if_named, number_meant, poset_at, rounded, tuple_meant, upper_meant, value_meant}
+use Rattle.row_values.specs.Values.{counted, each_meant, element_meant, if_named, number_meant, poset_at, rounded, tuple_meant, upper_meant, value_meant}
 use Rattle.row_values.specs.declared.value.Rounding.{Rounding}
 use Rattle.row_values.specs.declared.value.Rounding.TheVariants as rounding
 use Rattle.tree_units.specs.Constants.{constant_of}
 use Rattle.tree_units.specs.declared.constant.Constant.{Constant}
 use Rattle.unit_core.specs.Dimension.{same_dim}
 use Rattle.unit_core.specs.Range.{greatest_part}
-use Rattle.unit_core.specs.Rounding.{ceiling, floor}
+use Rattle.unit_core.specs.Rounding.{floor}
 use Rattle.unit_core.specs.RoundingLaws.{ceiling_is, floor_is}
 use Rattle.unit_core.specs.declared.dim.Dim.{Dim}
 use Rattle.unit_core.specs.declared.fraction.Fraction.{Fraction}

@@ -1,8 +1,8 @@
 -- Rows and their cells in turn.
-use Rattle.std.proofs.Common.{◌≡◌, ◌∙◌, ◌<◌, ◌+◌, refl, ap, sym, ℕ, List, [], ◌∷◌, ◌++◌, drop, get_or, length, map}
+use Rattle.std.proofs.Common.{◌≡◌, ◌∙◌, ◌<◌, ◌+◌, refl, ap, sym, ℕ, List, [], ◌∷◌, ◌++◌, drop, get_or, length}
 use Rattle.std.proofs.lemmas.List.{drop_more}
 use Rattle.std.specs.List.{flat_map}
-use Rattle.std.specs.Prelude.{Option, Some, None, Err, option_map}
+use Rattle.std.specs.Prelude.{Some, Err, option_map}
 use Rattle.design_lexer.specs.declared.tree.RowTree.{RowTree}
 use Rattle.design_lexer.specs.declared.tree.ValueTree.{ValueTree}
 use Rattle.design_model.specs.declared.design.CatRow.{CatRow}

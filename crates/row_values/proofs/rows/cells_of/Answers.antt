@@ -1,5 +1,5 @@
-use Rattle.std.proofs.Common.{rules, ◌≡◌, ◌<◌, ◌+◌, ◌++◌, ◌∷◌, [], sym, subst, length}
-use Rattle.row_values.proofs.RowLemmas.{CellsLeft, cells_next, cells_stopped}
+use Rattle.std.proofs.Common.{rules, ◌<◌, ◌+◌, sym, subst, length}
+use Rattle.row_values.proofs.RowLemmas.{CellsLeft, cells_next}
 use Rattle.row_values.proofs.rows.cells_of.Goals as goal
 
 pub loop-at-preserved : goal.loop-at-preserved

@@ -1,5 +1,5 @@
-use Rattle.std.proofs.Common.{◌+◌, ◌++◌, ◌∷◌, [], sym, subst}
-use Rattle.row_values.proofs.RowLemmas.{RowsLeft, rows_front, rows_next}
+use Rattle.std.proofs.Common.{◌+◌, sym, subst}
+use Rattle.row_values.proofs.RowLemmas.{RowsLeft, rows_next}
 use Rattle.row_values.proofs.rows.rows_of_trees.Goals as goal
 
 pub loop-row-preserved : goal.loop-row-preserved

@@ -1,4 +1,4 @@
-use Rattle.std.proofs.Common.{rules, ◌≡◌, ◌<◌, ◌+◌, ◌++◌, ◌∷◌, [], ◌∙◌, sym, ap, length, map, drop, List}
+use Rattle.std.proofs.Common.{rules, ◌<◌, ◌+◌, ◌++◌, ◌∙◌, sym, ap, length, map, drop, List}
 use Rattle.std.proofs.lemmas.Result.{err_from_is_err_and}
 use Rattle.std.specs.Prelude.{option_map}
 use Rattle.row_values.proofs.ValueLemmas.{each_next, each_stopped, each_unequal}
