@@ -1,6 +1,7 @@
 pub mod CellLemmas
 pub mod FindsLemmas
 pub mod FitLemmas
+pub mod OnceLemmas
 pub mod RecordLemmas
 pub mod RowLemmas
 pub mod StreamLemmas
