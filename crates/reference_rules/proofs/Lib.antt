@@ -1,0 +1,3 @@
+pub mod KnownPorts
+pub mod Outlined
+pub mod TypedMeaning

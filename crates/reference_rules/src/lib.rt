@@ -1,0 +1,6 @@
+//! The rules that references follow, and what they give.
+#![tactic(auto)]
+
+mod laws;
+
+pub use laws::references_denote_typed_designs;
