@@ -6,10 +6,9 @@ use design_parser::{FileKind, parse_file};
 use fault_list::{Fault, FaultKind, Stop};
 use name_index::NameIndex;
 use order_core::List;
-use row_values::rows_of_trees;
+use row_values::{Columns, rows_of_table, rows_of_trees};
 use std::alloc::Global;
 use std::test::Fail;
-use table_rows::{Columns, rows_of_table};
 use tree_units::port_of;
 use value_type::{Port, Row, Types, Value};
 

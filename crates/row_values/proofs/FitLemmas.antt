@@ -1,9 +1,9 @@
--- A value that is meant is one of its type.
+-- A value that is meant is one of its type, and rows that are meant are typed.
 use Rattle.std.proofs.Common.{◌≡◌, ◌∙◌, ◌*◌, ◌≤◌, refl, sym, ap, subst, arith, ℕ, Bool, true, false, cond, IsTrue, List, [], ◌∷◌, map}
 use Rattle.std.proofs.Math.Nat.{mul-le-mul_right}
 use Rattle.std.proofs.lemmas.Bool.{le-leb}
 use Rattle.std.specs.List.{list_all}
-use Rattle.std.specs.Prelude.{Option, Some, None, option_and_then, option_map, slice_get}
+use Rattle.std.specs.Prelude.{◌+◌, ◌++◌, Option, Some, None, drop, length, option_and_then, option_map, slice_get}
 use Rattle.std.specs.Str.{bytes_eq}
 use Rattle.design_lexer.specs.declared.tree.ValueTree.{ValueTree, out-ValueTree}
 use Rattle.design_lexer.specs.declared.tree.ValueTree.TheOpen.{ValueTree-F}
@@ -15,6 +15,7 @@ use Rattle.order_core.specs.MinimalElements.{minimal_of}
 use Rattle.order_core.specs.MinimalElementsLaws.{minimal_of_upper}
 use Rattle.order_core.specs.Tuple.{are_values}
 use Rattle.row_values.specs.Rows.{cells_meant, row_meant, row_named, rows_meant}
+use Rattle.row_values.specs.Tables.{CellsAre, Record, RowsAre}
 use Rattle.row_values.specs.Values.{counted, each_meant, element_meant, if_named, number_meant, poset_at, rounded, tuple_meant, upper_meant, value_meant}
 use Rattle.row_values.specs.declared.value.Rounding.{Rounding}
 use Rattle.row_values.specs.declared.value.Rounding.TheVariants as rounding
@@ -194,6 +195,14 @@ module _ (t : Types) (r : Rounding) (named : AreNamed t) where
       go (Some v) None is rest k = absurd (cc)
       go None q is rest k = absurd (cc)
 
+  -- The values that the cells of a record mean fit their ports.
+  pub record_fits : (ports : List Port) (cells : Record) (vs : List Value) → CellsAre t r ports cells vs → IsTrue (row_fits t (port_kinds ports) vs)
+  record_fits [] cells [] h = refl
+  record_fits [] cells (v ∷ vs) h = absurd h
+  record_fits (p ∷ ps) [] vs h = absurd h
+  record_fits (p ∷ ps) (c ∷ cs) [] h = absurd h
+  record_fits (p ∷ ps) (c ∷ cs) (v ∷ vs) h = both _ _ (values_fit p.kind h.0.tree v h.0.means) (record_fits ps cs vs h.1)
+
 module _ (t : Types) (named : AreNamed t) (provides requires_ : List Port) where
   row_typed : (tree : RowTree) (row : CatRow) → row_meant t provides requires_ tree ≡ Some row → IsTrue (row_is_typed t provides requires_ row)
   row_typed tree row h = go (cells_meant t rounding.Down provides tree.provided) (cells_meant t rounding.Up requires_ tree.required) refl refl h
@@ -218,3 +227,13 @@ module _ (t : Types) (named : AreNamed t) (provides requires_ : List Port) where
           subst (λ (zs : List CatRow). IsTrue (list_all (row_is_typed t provides requires_) zs)) same (both _ _ (row_typed x row is) (rest ys refl))
       go (Some row) None is rest k = absurd (cc)
       go None q is rest k = absurd (cc)
+
+  -- Each row that a record of a table means is typed.
+  pub table_typed : (before : List CatRow) (records : List Record) (rows : List CatRow) → RowsAre t provides requires_ before records rows → IsTrue (list_all (row_is_typed t provides requires_) rows)
+  table_typed before [] [] h = refl
+  table_typed before [] (row ∷ rows) h = absurd h
+  table_typed before (r ∷ rs) [] h = absurd h
+  table_typed before (r ∷ rs) (row ∷ rows) h =
+      let is = h.0.means in
+      let typed : IsTrue (row_is_typed t provides requires_ row) = both _ _ (record_fits t rounding.Down named provides (drop 1 r) row.provided is.provided) (record_fits t rounding.Up named requires_ (drop (1 + length provides) r) row.required is.required) in
+      both _ _ typed (table_typed (before ++ row ∷ []) rs rows h.1)

@@ -1,6 +1,0 @@
-use Rattle.csv.specs.Records.{fields_of}
-use Rattle.table_rows.proofs.RecordLemmas.{CellsLeft}
-use Rattle.table_rows.proofs.record.cells_of_record.Given as goal
-
-abbrev pub invariant-loop-at : goal.invariant-loop-at
-invariant-loop-at l = CellsLeft l.types l.rounding l.ports (fields_of l.cells) l.from l.at l.values.items
