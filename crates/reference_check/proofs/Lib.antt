@@ -1,0 +1,4 @@
+pub mod GivenLemmas
+pub mod MatchLemmas
+pub mod ReferenceLemmas
+pub mod ScopeLemmas

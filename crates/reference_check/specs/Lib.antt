@@ -1,0 +1,2 @@
+-- Read Fronts: what references need to know.
+pub mod Fronts
