@@ -1,3 +1,4 @@
+pub mod FrontLemmas
 pub mod GivenLemmas
 pub mod MatchLemmas
 pub mod ReferenceLemmas

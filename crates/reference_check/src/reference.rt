@@ -52,7 +52,7 @@ impl<'a> Scope<'a> {
 }
 
 /// The front of the file of this number.
-fn front_at(fronts: &[Option<Front>], number: u32) -> Option<&Front>
+pub(crate) fn front_at(fronts: &[Option<Front>], number: u32) -> Option<&Front>
     ensures { option_map (λ f. front_held f.now) result ≡ front_in (slice_get fronts.now number) }
 {
     match fronts.get(number as usize) {
