@@ -1,5 +1,6 @@
 #!/usr/bin/env python3
-"""Shows how the time for a library grows with its size: for reading it, and for checking its names, types and ports.
+"""Shows how the time for a library grows with its size: for reading it, and for checking its names, types, connections,
+rows and references.
 
     bench/library.py [PERCENT ..]
 
@@ -37,7 +38,7 @@ RUNS = 5
 MAX_FILES = 1000
 MAX_FILE = 1_048_576
 MAX_TEXT = 16_777_216
-STAGES = ["parse", "names", "types", "all"]
+STAGES = ["parse", "names", "types", "connection", "rows", "all"]
 CATALOGUE = "catalogue { provides x [Nat]; requires y [Nat]; row only: 1 -> 2; }"
 
 

@@ -1,14 +1,16 @@
-//! Reads the files of a library from standard input, and prints whether they pass the checks of names, types and
-//! connections. `bench/library.py` runs it.
+//! Reads the files of a library from standard input, and prints whether they pass the checks of names, types,
+//! connections, rows and references. `bench/library.py` runs it.
 #![tactic(auto)]
 
 mod library;
 mod stage;
 
+use catalogue_read::check_rows;
 use fault_list::{StageFault, Stop};
 use library::{Library, read_library};
-use name_table::{are_small, build};
+use name_table::{Names, are_small, build};
 use order_core::List;
+use reference_check::check_references;
 use stage::{Stage, stage_of};
 use std::alloc::Global;
 use std::{env, io};
@@ -31,18 +33,31 @@ fn check_listed(alloc: Global, text: &str, last: Stage) -> Result<(), StageFault
     if last == Stage::Names {
         return Ok(());
     }
-    check_types(alloc, &names)?;
+    check_stages(alloc, &names, last)
+}
+
+/// What is wrong first in a library whose names are in order, up to this stage.
+fn check_stages(alloc: Global, names: &Names, last: Stage) -> Result<(), StageFault> {
+    check_types(alloc, names)?;
     if last == Stage::Types {
         return Ok(());
     }
-    check_connected(alloc, &names)
+    check_connected(alloc, names)?;
+    if last == Stage::Connection {
+        return Ok(());
+    }
+    check_rows(alloc, names)?;
+    if last == Stage::Rows {
+        return Ok(());
+    }
+    check_references(alloc, names)
 }
 
 /// The program may be told the stage after which to stop.
 fn main(rt: HostRuntime) -> io::Result<()> {
     let word = env::args(&rt)?.nth(1);
     let Some(last) = stage_of(word.as_ref()) else {
-        return println!(rt; "the stages are parse, names, types and all");
+        return println!(rt; "the stages are parse, names, types, connection, rows and all");
     };
     let text = io::read_to_string(rt.alloc(), rt.reader())?;
     match check_listed(rt.alloc(), text.as_str(), last) {

@@ -4,6 +4,8 @@ pub enum Stage {
     Parse,
     Names,
     Types,
+    Connection,
+    Rows,
     All,
 }
 
@@ -16,6 +18,8 @@ pub fn stage_of(word: Option<&String>) -> Option<Stage> {
         "parse" => Some(Stage::Parse),
         "names" => Some(Stage::Names),
         "types" => Some(Stage::Types),
+        "connection" => Some(Stage::Connection),
+        "rows" => Some(Stage::Rows),
         "all" => Some(Stage::All),
         _ => None,
     }
