@@ -3,5 +3,7 @@
 pub mod BindingLaws
 pub mod Denotes
 pub mod DenotesLaws
+pub mod Linking
+pub mod Modules
 pub mod Ranked
 pub mod Sources

@@ -1,0 +1,5 @@
+pub mod FrontLemmas
+pub mod GivenLemmas
+pub mod MatchLemmas
+pub mod ReferenceLemmas
+pub mod ScopeLemmas

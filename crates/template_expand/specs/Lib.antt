@@ -1,0 +1,2 @@
+-- Read Trails: what is denoted where arguments lead to.
+pub mod Trails
