@@ -171,7 +171,7 @@ def main():
     expect(all(0 < percent <= 100 for percent in percents), "a size is from 1 to 100 percent")
     build()
     [base] = least_times("", {"parse": "accepted"})
-    print(f"{'library':>10} {'percent':>8} {'bytes':>9} {'reading':>8} {'names':>8} {'types':>8} {'ports':>8}")
+    print(f"{'library':>10} {'percent':>8} {'bytes':>9} {'reading':>8} {'names':>8} {'types':>8} {'ports':>8} {'rows':>8} {'refs':>8}")
     for name, make in KINDS:
         for percent in percents:
             files, fault = make(percent)

@@ -1,5 +1,6 @@
 -- A file's catalogue: its ports are few, and its rows are those of the file.
-use Rattle.std.proofs.Common.{◌≡◌, ◌∙◌, ◌<◌, ◌^◌, sym, subst, ℕ, List, [], length}
+use Rattle.std.proofs.Common.{◌≡◌, ◌∙◌, ◌<◌, ◌^◌, ap, refl, sym, subst, ℕ, List, [], get_or, length}
+use Rattle.std.proofs.lemmas.Option.{slice_get_read}
 use Rattle.std.specs.Prelude.{Option, Some, Result, Err, slice_get}
 use Rattle.catalogue_read.specs.Catalogues.{AnswersBy, AreListed, AreRowsOf, Catalogue, HasBadRow, HasRows, IsBadList, IsFaultIn, IsRowFaultOf, catalogue_in, catalogue_of}
 use Rattle.design_lexer.specs.declared.tree.BodyTree.{BodyTree}
@@ -53,6 +54,10 @@ module _ (types : Types) (f : File) (c : Catalogue) (ports : SidePorts) (small :
   required_few = subst (λ (s : Sides). length s.requires_ < 2 ^ 32) (sym held) (one_few types Requires c.ports (catalogue_few f c small is))
 
 -- ---- the rows of the file
+
+-- The file that was read at a number is there.
+pub file_there : (files items : List SourceFile) (i : ℕ) (f : SourceFile) → items ≡ files → i < length files → f ≡ get_or items i f → slice_get files i ≡ Some f
+file_there files items i f same inside is = slice_get_read files (length files) i f refl inside (is ∙ ap (λ (fs : List SourceFile). get_or fs i f) same)
 
 -- The file of a number is the only one there.
 pub at_number : (P : SourceFile → Type 0) (files : List SourceFile) (i : ℕ) (f : SourceFile) → slice_get files i ≡ Some f → P f → (g : SourceFile) → slice_get files i ≡ Some g → P g

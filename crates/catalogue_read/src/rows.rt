@@ -25,7 +25,7 @@ use value_type::Types;
 /// The rows of the file of this number, or the first of what is wrong with them. A file that is no catalogue has none.
 ///
 /// Of a catalogue that names no table `NoRows`, `RowWidth` or `BadCell` in this file. Of one that names a table the same
-/// of the table, in the table's file. These are the ports that the catalogue declares.
+/// of the table, in the table's file, at the number of the record. `ports` are those that the catalogue declares.
 pub fn rows_with(
     alloc: Global,
     names: &Names,

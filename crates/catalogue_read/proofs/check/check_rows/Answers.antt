@@ -1,6 +1,6 @@
-use Rattle.std.proofs.Common.{◌≡◌, ◌<◌, ◌∙◌, ap, refl, subst, get_or, length, List}
-use Rattle.std.proofs.lemmas.Option.{slice_get_read}
+use Rattle.std.proofs.Common.{◌<◌, ◌∙◌, ap, subst, get_or, length, List}
 use Rattle.catalogue_read.specs.Catalogues.{HasBadRow, HasRows, HasSomeRows}
+use Rattle.catalogue_read.proofs.FileLemmas.{file_there}
 use Rattle.catalogue_read.proofs.FirstLemmas.{stopped_here}
 use Rattle.design_model.specs.declared.design.CatRow.{CatRow}
 use Rattle.name_table.specs.SmallLaws.{small_at}
@@ -13,7 +13,7 @@ file_rows-requires-clause-small c =
     let i = c.loop-file.file-index in
     let f = c.file-item.result in
     let inside = subst (λ (fs : List SourceFile). i < length fs) c.items-file-items.ensures c.loop-file-test.true in
-    small_at names.files i f names.small (slice_get_read names.files (length names.files) i f refl inside (c.file-item.is ∙ ap (λ (fs : List SourceFile). get_or fs i f) c.items-file-items.ensures))
+    small_at names.files i f names.small (file_there names.files c.items-file-items.result.now i f c.items-file-items.ensures inside c.file-item.is)
 
 pub returns-in-Err : goal.returns-in-Err
 returns-in-Err c =

@@ -1,8 +1,7 @@
-use Rattle.std.proofs.Common.{◌≡◌, ◌∙◌, ap, refl, subst, sym, get_or, length, List, Option, Some, slice_get}
-use Rattle.std.proofs.lemmas.Option.{slice_get_read}
+use Rattle.std.proofs.Common.{◌∙◌, subst, sym, Option}
 use Rattle.catalogue_read.specs.Catalogues.{AnswersBy, AreRowsOf, Catalogue, HasBadRow, HasRows}
 use Rattle.catalogue_read.specs.Held.{written}
-use Rattle.catalogue_read.proofs.FileLemmas.{at_number, listed_file, provided_few, required_few}
+use Rattle.catalogue_read.proofs.FileLemmas.{at_number, file_there, listed_file, provided_few, required_few}
 use Rattle.name_table.specs.SmallLaws.{small_at}
 use Rattle.name_table.specs.declared.source.SourceFile.{SourceFile}
 use Rattle.side_ports.specs.Held.{sides_held}
@@ -13,7 +12,7 @@ listed_rows-requires-clause-provides c =
     let names = c.args.names.now in
     let i = c.args.file in
     let f = c.index-items-file.result in
-    let there = slice_get_read names.files (length names.files) i f refl c.requires.file (c.index-items-file.is ∙ ap (λ (fs : List SourceFile). get_or fs i f) c.items.ensures) in
+    let there = file_there names.files c.items.result.now i f c.items.ensures c.requires.file c.index-items-file.is in
     let is = sym c.in-Some.ensures in
     provided_few names.types f.tree (written c.in-Some.catalogue) c.args.ports.now (small_at names.files i f names.small there) is (c.requires.ports f (written c.in-Some.catalogue) there is)
 
@@ -22,7 +21,7 @@ listed_rows-requires-clause-requires_ c =
     let names = c.args.names.now in
     let i = c.args.file in
     let f = c.index-items-file.result in
-    let there = slice_get_read names.files (length names.files) i f refl c.requires.file (c.index-items-file.is ∙ ap (λ (fs : List SourceFile). get_or fs i f) c.items.ensures) in
+    let there = file_there names.files c.items.result.now i f c.items.ensures c.requires.file c.index-items-file.is in
     let is = sym c.in-Some.ensures in
     required_few names.types f.tree (written c.in-Some.catalogue) c.args.ports.now (small_at names.files i f names.small there) is (c.requires.ports f (written c.in-Some.catalogue) there is)
 
@@ -31,7 +30,7 @@ returns-in-Some c =
     let names = c.args.names.now in
     let i = c.args.file in
     let f = c.index-items-file.result in
-    let there = slice_get_read names.files (length names.files) i f refl c.requires.file (c.index-items-file.is ∙ ap (λ (fs : List SourceFile). get_or fs i f) c.items.ensures) in
+    let there = file_there names.files c.items.result.now i f c.items.ensures c.requires.file c.index-items-file.is in
     let is = sym c.in-Some.ensures in
     let own = written c.in-Some.catalogue in
     at_number (λ (g : SourceFile). AnswersBy (HasRows names.tables names.types g) (HasBadRow names.tables names.types g) c.listed_rows.result) names.files i f there
@@ -42,6 +41,6 @@ returns-in-None c =
     let names = c.args.names.now in
     let i = c.args.file in
     let f = c.index-items-file.result in
-    let there = slice_get_read names.files (length names.files) i f refl c.requires.file (c.index-items-file.is ∙ ap (λ (fs : List SourceFile). get_or fs i f) c.items.ensures) in
+    let there = file_there names.files c.items.result.now i f c.items.ensures c.requires.file c.index-items-file.is in
     at_number (λ (g : SourceFile). HasRows names.tables names.types g c.of.result) names.files i f there
     (subst (λ (o : Option Catalogue). AreRowsOf names.tables names.types o c.of.result) c.in-None.ensures (c.of.ensures ∙ c.new.ensures.items))

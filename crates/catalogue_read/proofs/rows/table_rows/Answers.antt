@@ -1,4 +1,4 @@
-use Rattle.std.proofs.Common.{◌≡◌, subst, Err, Some, ℕ, List}
+use Rattle.std.proofs.Common.{subst, Err, Some, ℕ, List}
 use Rattle.side_ports.specs.Held.{sides_held}
 use Rattle.catalogue_read.specs.Catalogues.{AreTabled}
 use Rattle.catalogue_read.proofs.FileLemmas.{table_stopped}
