@@ -1,7 +1,7 @@
 -- What is added to a form, step by step.
 use Rattle.std.specs.Prelude.{◌≡◌, ℕ, zero, suc, ◌+◌, ◌<◌, ◌≤◌, List, [], ◌∷◌, IfOk, Ok, Err, Result, drop, get_or, length, map, Some, None, option_map, slice_get}
 use Rattle.std.proofs.Common.{refl, sym, ap, ◌∙◌, arith}
-use Rattle.std.proofs.lemmas.List.{drop_more}
+use Rattle.std.proofs.lemmas.List.{drop_all, drop_more}
 use Rattle.design_measure.proofs.DenotedLemmas.{refer_at, refer_value-out}
 use Rattle.design_measure.proofs.LinearLemmas.{first_product, no_product, product_moved, weighed_here, weighed_none}
 use Rattle.design_measure.specs.Scales.{IsScale, Scale, links_value, refer_value, value_in, value_of, weighed}
@@ -13,12 +13,6 @@ use Rattle.reference_meaning.specs.declared.module.Resolved.TheVariants as resol
 pub ok_weaker : {A E : Type 0} (r : Result A E) (P Q : A → Type 0) → ((x : A) → P x → Q x) → IfOk r P → IfOk r Q
 ok_weaker (Ok x) P Q f h = f x h
 ok_weaker (Err e) P Q f h = tt
-
-drop_all : {A : Type 0} (xs : List A) (i : ℕ) → length xs ≤ i → drop i xs ≡ []
-drop_all [] zero l = refl
-drop_all [] (suc i) l = refl
-drop_all (x ∷ xs) zero l = absurd (omega (arith, l))
-drop_all (x ∷ xs) (suc i) l = drop_all xs i (omega (arith, l))
 
 got_mapped : {A B : Type 0} (f : A → B) (xs : List A) (i : ℕ) → slice_get (map f xs) i ≡ option_map f (slice_get xs i)
 got_mapped f [] i = refl
@@ -97,7 +91,7 @@ module _ (a : Scale) (laws : IsScale a) where
   -- After the last factor nothing is left.
   pub arguments_done : (old : Form) (values fs vs : List ℕ) (i k whole : ℕ) → length fs ≤ i → whole ≡ plus (value_of a old values) (a.times k (weighed a (drop i fs) (drop i vs))) → value_of a old values ≡ whole
   arguments_done old values fs vs i k whole end left =
-      sym (left ∙ ap (λ (xs : List ℕ). plus (value_of a old values) (a.times k (weighed a xs (drop i vs)))) (drop_all fs i end) ∙ no_product a laws old.constant (weighed a old.factors.items values) k)
+      sym (left ∙ ap (λ (xs : List ℕ). plus (value_of a old values) (a.times k (weighed a xs (drop i vs)))) (drop_all i fs end) ∙ no_product a laws old.constant (weighed a old.factors.items values) k)
 
   -- One link more.
   pub link_added : (forms : List Form) (values : List ℕ) (links : List Link) (i step whole : ℕ) (link : Link) (old new : Form) → i < length links → link ≡ get_or links i link
@@ -111,4 +105,4 @@ module _ (a : Scale) (laws : IsScale a) where
   pub links_done : (forms : List Form) (values : List ℕ) (links : List Link) (i step whole : ℕ) (old : Form) → length links ≤ i
       → whole ≡ plus (value_of a old values) (a.times step (links_value a forms values (drop i links))) → value_of a old values ≡ whole
   links_done forms values links i step whole old end left =
-      sym (left ∙ ap (λ (ls : List Link). plus (value_of a old values) (a.times step (links_value a forms values ls))) (drop_all links i end) ∙ no_product a laws old.constant (weighed a old.factors.items values) step)
+      sym (left ∙ ap (λ (ls : List Link). plus (value_of a old values) (a.times step (links_value a forms values ls))) (drop_all i links end) ∙ no_product a laws old.constant (weighed a old.factors.items values) step)

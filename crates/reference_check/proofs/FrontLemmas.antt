@@ -1,6 +1,6 @@
 -- The fronts of a library, file by file.
 use Rattle.std.proofs.Common.{◌≡◌, ◌∙◌, ◌<◌, ◌≤◌, ◌+◌, refl, sym, ap, arith, ℕ, zero, suc, Bool, true, false, cond, List, [], ◌∷◌, ◌++◌, append_assoc, drop, get_or, length, map}
-use Rattle.std.proofs.lemmas.List.{drop_more, map-append}
+use Rattle.std.proofs.lemmas.List.{drop_all, drop_more, map-append}
 use Rattle.std.specs.List.{position_from}
 use Rattle.std.specs.Prelude.{Option, Some, None, option_and_then, slice_get}
 use Rattle.std.specs.Str.{bytes_eq}
@@ -59,12 +59,6 @@ module _ (all : List SourceFile) (types : Types) where
       let next : s + 1 + k ≡ s + suc k = omega arith in
       got_front (s + 1) files made k rest ∙ ap (λ n. front_by all types n (slice_get files k)) next
 
-  drop_end : (files : List SourceFile) (i : ℕ) → length files ≤ i → drop i files ≡ []
-  drop_end [] zero l = refl
-  drop_end [] (suc i) l = refl
-  drop_end (f ∷ files) zero l = absurd (omega (arith, l))
-  drop_end (f ∷ files) (suc i) l = drop_end files i (omega (arith, l))
-
   none_after : (xs ys : List (Option Front)) → xs ++ ys ≡ xs ++ ys → ys ≡ [] → xs ++ ys ≡ xs
   none_after [] ys e none = none
   none_after (x ∷ xs) ys e none = ap (λ zs. x ∷ zs) (none_after xs ys refl none)
@@ -74,7 +68,7 @@ module _ (all : List SourceFile) (types : Types) where
   fronts_done i made end left k = let same : 0 + k ≡ k = omega arith in got_front 0 all made k whole ∙ ap (λ n. front_by all types n (slice_get all k)) same
     where
       whole : fronts_from all types 0 all ≡ map held_in made
-      whole = left ∙ none_after (map held_in made) (fronts_from all types i (drop i all)) refl (ap (fronts_from all types i) (drop_end all i end))
+      whole = left ∙ none_after (map held_in made) (fronts_from all types i (drop i all)) refl (ap (fronts_from all types i) (drop_all i all end))
 
   -- Then each name has its front.
   pub named_fronts : (made : List (Option held.Front)) → AreFrontsOf all types made → (name : List ℕ) → fronts_held all made name ≡ front_of all types name

@@ -1,5 +1,6 @@
 -- Names of arguments and of parameters.
-use Rattle.std.proofs.Common.{◌≡◌, ◌∙◌, ◌≤◌, ◌||◌, refl, sym, ap, arith, ℕ, zero, suc, drop, length, Bool, true, false, cond, List, [], ◌∷◌, ◌++◌, map}
+use Rattle.std.proofs.Common.{◌≡◌, ◌∙◌, ◌≤◌, ◌||◌, refl, sym, ap, ℕ, drop, length, Bool, true, false, cond, List, [], ◌∷◌, ◌++◌, map}
+use Rattle.std.proofs.lemmas.List.{drop_all}
 use Rattle.std.specs.List.{flat_map, list_all, list_any}
 use Rattle.std.specs.Prelude.{◌&&◌, Option, Some, None, is_some, not, option_map}
 use Rattle.std.specs.Str.{bytes_eq}
@@ -70,13 +71,7 @@ mapped_there f (Some x) = refl
 
 -- Nothing is left after the last item.
 pub nothing_left : {A F : Type 0} (faults : A → List F) (items : List A) (i : ℕ) (whole : List F) → length items ≤ i → whole ≡ flat_map faults (drop i items) → whole ≡ []
-nothing_left faults items i whole end left = left ∙ ap (flat_map faults) (drop_all items i end)
-  where
-    drop_all : {A : Type 0} (xs : List A) (i : ℕ) → length xs ≤ i → drop i xs ≡ []
-    drop_all [] zero l = refl
-    drop_all [] (suc i) l = refl
-    drop_all (x ∷ xs) zero l = absurd (omega (arith, l))
-    drop_all (x ∷ xs) (suc i) l = drop_all xs i (omega (arith, l))
+nothing_left faults items i whole end left = left ∙ ap (flat_map faults) (drop_all i items end)
 
 module _ (wanted : List Wanted) (arguments : List ArgTree) (given : List (List ℕ × ℕ)) (at : ℕ) (tells : (name : List ℕ) → is_some (number_of given name) ≡ list_any (λ n. bytes_eq name n.name) (map (λ a. (out-ArgTree a).name) arguments))
     (known : flat_map (unknown (map wanted_held wanted)) (map (λ a. (out-ArgTree a).name) arguments) ≡ []) where

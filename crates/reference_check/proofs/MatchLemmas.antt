@@ -1,6 +1,6 @@
 -- Ports that are compared one by one.
-use Rattle.std.proofs.Common.{◌≡◌, ◌∙◌, ◌<◌, ◌≤◌, ◌+◌, ◌&&◌, refl, sym, subst, ap, arith, ℕ, zero, suc, Bool, true, false, IsTrue, List, [], ◌∷◌, drop, get_or, length}
-use Rattle.std.proofs.lemmas.List.{drop_more}
+use Rattle.std.proofs.Common.{◌≡◌, ◌∙◌, ◌<◌, ◌≤◌, ◌+◌, ◌&&◌, refl, sym, subst, ap, arith, ℕ, suc, Bool, true, false, IsTrue, List, [], ◌∷◌, drop, get_or, length}
+use Rattle.std.proofs.lemmas.List.{drop_all, drop_more}
 use Rattle.std.specs.Str.{bytes_eq}
 use Rattle.reference_rules.specs.Outlines.{Outline, outlines, same_list, same_outline}
 use Rattle.value_type.specs.SameForm.{same_kind}
@@ -46,11 +46,5 @@ module _ (xs ys : List Port) (i : ℕ) (x y : Port) (inside : i < length xs) (si
   pub one_differs : same_outline (outlined x) (outlined y) ≡ false → whole ≡ false
   one_differs e = step ∙ ap (λ t. t && same_list (outlines (drop (i + 1) xs)) (outlines (drop (i + 1) ys))) e
 
-drop_all : {A : Type 0} (xs : List A) (i : ℕ) → length xs ≤ i → drop i xs ≡ []
-drop_all [] zero l = refl
-drop_all [] (suc i) l = refl
-drop_all (x ∷ xs) zero l = absurd (omega (arith, l))
-drop_all (x ∷ xs) (suc i) l = drop_all xs i (omega (arith, l))
-
 pub all_alike : (xs ys : List Port) (i : ℕ) (whole : Bool) → length xs ≤ i → length xs ≡ length ys → whole ≡ same_list (outlines (drop i xs)) (outlines (drop i ys)) → true ≡ whole
-all_alike xs ys i whole end size left = sym (left ∙ (λ j. same_list (outlines (drop_all xs i end j)) (outlines (drop_all ys i (omega (arith, end, size)) j))))
+all_alike xs ys i whole end size left = sym (left ∙ (λ j. same_list (outlines (drop_all i xs end j)) (outlines (drop_all i ys (omega (arith, end, size)) j))))

@@ -13,6 +13,7 @@ use Rattle.design_model.specs.declared.design.Design.{Design}
 use Rattle.design_model.specs.declared.design.Design.TheVariants.{Cat, Net}
 use Rattle.design_model.specs.declared.design.Part.{Part}
 use Rattle.order_core.specs.Pointwise.{Pointwise}
+use Rattle.order_core.specs.PointwiseLaws.{pointwise_length}
 use Rattle.reference_meaning.specs.BindingLaws.{IsGiven, bound_as_given, there_as_given}
 use Rattle.reference_meaning.specs.Denotes.{Binding, Binds, BodyDenotes, DenotesIn, IsPart, NamesFile, bound}
 use Rattle.reference_meaning.specs.Linking.{AreModules, Filled, IsBodyOf, IsLinkOf, IsModuleOf, filled, param_place, resolve_step, resolved_by, resolved_of, source_params}
@@ -201,12 +202,6 @@ module _ (R : RefTree → Design → Type 0) (S : Resolved → Design → Type 0
       let rest = all_given ps parts.1 parts.3 in
       subst (Inner S inner (p ∷ ps)) (sym parts.4) (record { designs = one.0 ∷ rest.designs; bound_to = (one.1, rest.bound_to); made = (one.2, rest.made) })
 
-pub pointwise_size : {A B : Type 0} (R : A → B → Type 0) (xs : List A) (ys : List B) → Pointwise R xs ys → length ys ≡ length xs
-pointwise_size R [] [] h = refl
-pointwise_size R [] (y ∷ ys) h = absurd h
-pointwise_size R (x ∷ xs) [] h = absurd h
-pointwise_size R (x ∷ xs) (y ∷ ys) h = ap suc (pointwise_size R xs ys h.1)
-
 module _ (sources : List Source) (modules : Modules) (linked : AreModules sources modules) where
   pub linked_denotes : (n : ℕ) (params : List (List ℕ)) (bindings : List Binding) (designs : List Design) → Stand params bindings designs → (q : RefTree) (r : Resolved) (X : Design)
       → resolved_of sources params q ≡ Some r → DenotesIn sources n bindings q X → MakesIn modules n designs r X
@@ -239,7 +234,7 @@ module _ (sources : List Source) (modules : Modules) (linked : AreModules source
           let inner = all_given (DenotesIn sources n bindings) (MakesIn modules n designs) sources params makes (arguments_of q) h.inner h.arguments (params_of h.source.tree) rs all in
           let matches : (name : List ℕ) → is_among (params_of h.source.tree) name ≡ is_some (bound h.inner name) = λ name. h.gives name ∙ there_as_given (DenotesIn sources n bindings) _ _ (bound_as_given (DenotesIn sources n bindings) name (arguments_of q) h.inner h.arguments) in
           let stand : Stand (params_of h.source.tree) h.inner inner.designs = record {
-            size = pointwise_size (λ p d. bound h.inner p ≡ Some d) (params_of h.source.tree) inner.designs inner.bound_to;
+            size = sym (pointwise_length (λ p d. bound h.inner p ≡ Some d) (params_of h.source.tree) inner.designs inner.bound_to);
             each = partners_stand (params_of h.source.tree) h.inner inner.designs matches inner.bound_to;
           } in
           let same : resolved.Module number rs ≡ r = cc in

@@ -17,6 +17,7 @@ use Rattle.design_model.specs.Parts.{provided_ports, required_ports}
 use Rattle.design_model.specs.PartsLaws.{provided-Cat, required-Cat, provided-Choice, required-Choice, provided-Net, required-Net}
 use Rattle.fault_list.specs.FaultLaws.{none_left}
 use Rattle.fault_list.specs.Faults.{fault_if}
+use Rattle.fault_list.specs.RestLaws.{none_right}
 use Rattle.fault_list.specs.declared.fault.Fault.{Fault}
 use Rattle.fault_list.specs.declared.fault.FaultKind.TheVariants.{PortsDiffer}
 use Rattle.reference_meaning.specs.BindingLaws.{IsGiven, bound_as_given}
@@ -36,10 +37,6 @@ FitsAt (Some w) (Some X) = outlines_of X ≡ w.ports
 
 abbrev pub Fit : List Wanted → List Binding → Type 0
 Fit params bindings = (name : List ℕ) → FitsAt (param_named params name) (bound bindings name)
-
-pub none_right : {A : Type 0} (xs ys : List A) → xs ++ ys ≡ [] → ys ≡ []
-none_right [] ys e = e
-none_right (x ∷ xs) ys e = absurd (cc)
 
 pub none_each : {A B : Type 0} (f : A → List B) (xs : List A) (x : A) → flat_map f xs ≡ [] → IsMember x xs → f x ≡ []
 none_each f [] x e m = absurd m

@@ -18,10 +18,11 @@ use Rattle.design_model.specs.Typed.{ArePorts, ConstraintIsTyped, HasPorts, IsFe
 use Rattle.design_model.specs.TypedLaws.{IsTyped-Cat, IsTyped-Choice, IsTyped-Net}
 use Rattle.design_model.specs.Wiring.{wiring_of}
 use Rattle.fault_list.specs.FaultLaws.{none_left}
+use Rattle.fault_list.specs.RestLaws.{none_right}
 use Rattle.reference_meaning.specs.BindingLaws.{IsGiven, bound_as_given}
 use Rattle.reference_meaning.specs.Denotes.{Binding, Binds, BodyDenotes, DenotesIn, IsPart, bound, choice_of}
 use Rattle.reference_meaning.specs.Sources.{Content, GiveEach, Source, argument_of, arguments_of, body_of, given, name_of, source_named}
-use Rattle.reference_rules.proofs.KnownPorts.{Fit, FitsAt, choice_right, denoted_ports, given_right, inner_fits, none_each, none_right, not_broken, unbound}
+use Rattle.reference_rules.proofs.KnownPorts.{Fit, FitsAt, choice_right, denoted_ports, given_right, inner_fits, none_each, not_broken, unbound}
 use Rattle.reference_rules.specs.Outlines.{Outlines, outlines, outlines_of}
 use Rattle.reference_rules.specs.ReferenceFaults.{AreFronts, Front, NoFaults, Wanted, branch_faults, choice_faults, param_named, reference_faults, referred, wanted_in}
 use Rattle.reference_rules.specs.ReferenceLaws.{ports_known}
