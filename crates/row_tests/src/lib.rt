@@ -1,4 +1,4 @@
-//! Tests of rows and tables, over texts that the parser has read.
+//! Tests of rows, tables and queries, over texts that the parser has read.
 #![tactic(auto)]
 
 #[cfg(test)]

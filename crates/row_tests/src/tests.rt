@@ -1,11 +1,12 @@
 ghost use Rattle.value_type.specs.Types.{AreNamed};
 
 use design_lexer::{BodyTree, File, PortTree, RowTree, Side, lex};
-use design_model::CatRow;
+use design_model::{CatRow, Design};
 use design_parser::{FileKind, parse_file};
 use fault_list::{Fault, FaultKind, Stop};
 use name_index::NameIndex;
 use order_core::List;
+use query_read::{QueryError, QueryFault, read_query, read_tuple};
 use row_values::{Columns, rows_of_table, rows_of_trees};
 use std::alloc::Global;
 use std::test::Fail;
@@ -154,6 +155,63 @@ const TABLES: [(&[u8], Result<Rows, Wrong>); 21] = [
     ),
 ];
 
+/// A query or a tuple: its numbers in the grid's units, or what is wrong with it.
+type Written = Result<&'static [u64], QueryFault>;
+
+/// The ports of designs, queries for them, and what these are.
+const QUERIES: [(&[u8], &str, Written); 11] = [
+    (NATURAL, "90", Ok(&[90])),
+    (NATURAL, "90 g", Err(QueryFault::Kind { index: 0 })),
+    (
+        NATURAL,
+        "90, 1",
+        Err(QueryFault::Width {
+            found: 2,
+            wanted: 1,
+        }),
+    ),
+    (NATURAL, "90,", Err(QueryFault::Syntax { at: 3 })),
+    (NATURAL, "90 , ?", Err(QueryFault::Syntax { at: 5 })),
+    (
+        NATURAL,
+        "",
+        Err(QueryFault::Width {
+            found: 0,
+            wanted: 1,
+        }),
+    ),
+    (b"catalogue { row a: -> ; }", "", Ok(&[])),
+    (MASS, "0.5 kg", Ok(&[500])),
+    (MASS, "1.9 g", Ok(&[2])),
+    (MASS, "Top", Ok(&[u64::MAX])),
+    (
+        b"catalogue { provides f [g]; provides h [s]; provides k [Nat]; row a: 1 g, 1 s, 1 -> ; }",
+        "1 g, 1 g, 1 g",
+        Err(QueryFault::Kind { index: 1 }),
+    ),
+];
+
+/// The ports of designs, tuples of required values for them, and what these are.
+const TUPLES: [(&[u8], &str, Written); 5] = [
+    (MASS, "1.9 g", Ok(&[1])),
+    (MASS, "1.9 s", Err(QueryFault::TupleKind { index: 0 })),
+    (
+        NATURAL,
+        "1",
+        Err(QueryFault::TupleWidth {
+            found: 1,
+            wanted: 0,
+        }),
+    ),
+    (NATURAL, "", Ok(&[])),
+    (MASS, "1 g 1", Err(QueryFault::TupleSyntax { at: 4 })),
+];
+
+/// A catalogue with a provided number, and one with a provided and a required mass.
+const NATURAL: &[u8] = b"catalogue { provides f [Nat]; row a: 1 -> ; }";
+
+const MASS: &[u8] = b"catalogue { provides f [g]; requires r [g]; row a: 1 g -> 1 g; }";
+
 /// The ports of a catalogue, by their sides.
 #[derive(Drop)]
 struct Ports {
@@ -298,5 +356,64 @@ fn tables_mean_rows_or_the_first_bad_record_is_found(rt: HostRuntime) -> Result<
             assert!(rt; is_wanted(answer, want));
         }
     }
+    Ok(())
+}
+
+/// A catalogue without rows that has the ports of this text.
+fn design_of(alloc: Global, text: &[u8]) -> Option<Design> {
+    let file = file_of(alloc, text)?;
+    let (trees, _) = catalogue(&file)?;
+    let ports = ports_of(alloc, trees)?;
+    Some(Design::Cat {
+        provides: List::of(ports.provides),
+        requires_: List::of(ports.requires_),
+        rows: List::of(Vec::new(alloc)),
+    })
+}
+
+fn is_written(row: &Row, want: Written) -> bool {
+    match want {
+        Ok(numbers) => has_numbers(row, numbers),
+        Err(_) => false,
+    }
+}
+
+fn is_refused(error: QueryError, want: Written) -> bool {
+    match (error, want) {
+        (QueryError::Refused(fault), Err(wrong)) => fault == wrong,
+        _ => false,
+    }
+}
+
+/// Whether the query for the design of these ports is what is wanted. None where the design can't be read.
+fn query_is(alloc: Global, ports: &[u8], text: &str, want: Written) -> Option<bool> {
+    let design = design_of(alloc, ports)?;
+    let types = no_posets(alloc);
+    match read_query(alloc, &types, Some(design), text) {
+        Ok(query) => Some(is_written(&query.f, want)),
+        Err(error) => Some(is_refused(error, want)),
+    }
+}
+
+/// The same of a tuple.
+fn tuple_is(alloc: Global, ports: &[u8], text: &str, want: Written) -> Option<bool> {
+    let design = design_of(alloc, ports)?;
+    let types = no_posets(alloc);
+    match read_tuple(alloc, &types, &design, text) {
+        Ok(row) => Some(is_written(&row, want)),
+        Err(error) => Some(is_refused(error, want)),
+    }
+}
+
+#[test]
+fn queries_and_tuples_are_read_or_refused(rt: HostRuntime) -> Result<(), Fail> {
+    for (ports, text, want) in QUERIES {
+        assert!(rt; matches!(query_is(rt.alloc(), ports, text, want), Some(true)));
+    }
+    for (ports, text, want) in TUPLES {
+        assert!(rt; matches!(tuple_is(rt.alloc(), ports, text, want), Some(true)));
+    }
+    let nothing = read_query(rt.alloc(), &no_posets(rt.alloc()), None, "?");
+    assert!(rt; matches!(nothing, Err(QueryError::Refused(QueryFault::NoDesign))));
     Ok(())
 }
