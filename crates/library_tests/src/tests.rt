@@ -1,3 +1,4 @@
+mod folders;
 mod library;
 mod names;
 mod scopes;
