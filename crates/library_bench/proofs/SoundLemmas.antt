@@ -1,5 +1,5 @@
 -- A library whose types have no fault has sound ports.
-use Rattle.std.proofs.Common.{◌≡◌, refl, List, [], ◌∷◌, map}
+use Rattle.std.proofs.Common.{◌≡◌, refl, List, [], ◌∷◌}
 use Rattle.std.specs.List.{flat_map}
 use Rattle.catalogue_read.specs.Catalogues.{HasSoundPorts, catalogue_of, catalogue_port_faults}
 use Rattle.design_lexer.specs.declared.tree.BodyTree.TheVariants as body
@@ -12,12 +12,9 @@ use Rattle.order_core.specs.Pointwise.{Each}
 use Rattle.tree_units.specs.Ports.{port_faults}
 use Rattle.tree_units.specs.Posets.{poset_place}
 use Rattle.unit_check.specs.Declaring.{ports_in}
-use Rattle.unit_check.specs.TypeFaults.{file_port_faults, rule_faults_from, type_faults}
+use Rattle.unit_check.specs.RuleLaws.{none_mapped}
+use Rattle.unit_check.specs.TypeFaults.{file_port_faults}
 use Rattle.value_type.specs.declared.poset.Types.{Types}
-
-none_mapped : {A B : Type 0} (f : A → B) (xs : List A) → map f xs ≡ [] → xs ≡ []
-none_mapped f [] e = refl
-none_mapped f (x ∷ xs) e = absurd (cc)
 
 sound : (types : Types) (tree : File) → flat_map (port_faults (poset_place types)) (ports_in tree) ≡ [] → catalogue_port_faults types (catalogue_of tree) ≡ []
 sound types (file.Poset poset) e = refl
@@ -28,9 +25,6 @@ sound types (file.Design (body.Net ports parts rules)) e = refl
 sound types (file.Template params (body.Catalogue ports rows table)) e = e
 sound types (file.Template params (body.Choose branches)) e = refl
 sound types (file.Template params (body.Net ports parts rules)) e = refl
-
-pub ports_none : (files : List SourceFile) (types : Types) → type_faults files types ≡ [] → flat_map (file_port_faults types) files ≡ []
-ports_none files types e = none_left (flat_map (file_port_faults types) files) (rule_faults_from files types 0 files) e
 
 pub all_sound : (types : Types) (files : List SourceFile) → flat_map (file_port_faults types) files ≡ [] → Each (HasSoundPorts types) files
 all_sound types [] e = tt

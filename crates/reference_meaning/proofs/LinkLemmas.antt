@@ -1,14 +1,14 @@
 -- What a reference denotes, its module denotes with the names resolved.
-use Rattle.std.specs.Prelude.{◌≡◌, ℕ, zero, suc, ◌+◌, ◌<◌, ◌||◌, Bool, true, false, cond, List, [], ◌∷◌, find, is_some, length, map, Option, Some, None, option_and_then, option_map, slice_get}
+use Rattle.std.specs.Prelude.{◌≡◌, ℕ, zero, suc, ◌+◌, ◌<◌, ◌||◌, Bool, true, false, cond, List, [], ◌∷◌, is_some, length, map, Option, Some, None, option_and_then, option_map, slice_get}
 use Rattle.std.specs.List.{position_from}
 use Rattle.std.specs.Str.{bytes_eq}
 use Rattle.std.proofs.Common.{refl, sym, ap, subst, ◌∙◌, inl, inr, arith}
 use Rattle.std.proofs.lemmas.Slice.Eq.{bytes_eq-Decides}
-use Rattle.design_lexer.specs.declared.tree.ArgTree.{ArgTree, fold-ArgTree, fold_out-ArgTree}
+use Rattle.design_lexer.specs.declared.tree.ArgTree.{ArgTree}
 use Rattle.design_lexer.specs.declared.tree.BodyTree.{BodyTree}
 use Rattle.design_lexer.specs.declared.tree.BodyTree.TheVariants as tree
 use Rattle.design_lexer.specs.declared.tree.BranchTree.{BranchTree}
-use Rattle.design_lexer.specs.declared.tree.RefTree.{RefTree, fold_out-RefTree}
+use Rattle.design_lexer.specs.declared.tree.RefTree.{RefTree}
 use Rattle.design_model.specs.declared.design.Design.{Design}
 use Rattle.design_model.specs.declared.design.Design.TheVariants.{Cat, Net}
 use Rattle.design_model.specs.declared.design.Part.{Part}
@@ -16,9 +16,10 @@ use Rattle.order_core.specs.Pointwise.{Pointwise}
 use Rattle.order_core.specs.PointwiseLaws.{pointwise_length}
 use Rattle.reference_meaning.specs.BindingLaws.{IsGiven, bound_as_given, there_as_given}
 use Rattle.reference_meaning.specs.Denotes.{Binding, Binds, BodyDenotes, DenotesIn, IsPart, NamesFile, bound}
-use Rattle.reference_meaning.specs.Linking.{AreModules, Filled, IsBodyOf, IsLinkOf, IsModuleOf, filled, param_place, resolve_step, resolved_by, resolved_of, source_params}
+use Rattle.reference_meaning.specs.LinkingLaws.{fill, filled_as_given, resolved_of-out}
+use Rattle.reference_meaning.specs.Linking.{AreModules, IsBodyOf, IsLinkOf, IsModuleOf, filled, param_place, resolved_by, resolved_of, source_params}
 use Rattle.reference_meaning.specs.Modules.{BodyMakes, IsLinked, MakesAt, MakesIn, Modules, NamesModule}
-use Rattle.reference_meaning.specs.Sources.{Content, Source, argument_of, arguments_of, given, is_among, name_of, parameter_of, params_of, source_named, source_place}
+use Rattle.reference_meaning.specs.Sources.{Content, Source, argument_of, arguments_of, given, is_among, name_of, params_of, source_named, source_place}
 use Rattle.reference_meaning.specs.declared.module.Link.{Link}
 use Rattle.reference_meaning.specs.declared.module.Module.{Module}
 use Rattle.reference_meaning.specs.declared.module.ModuleBody.{ModuleBody}
@@ -26,28 +27,6 @@ use Rattle.reference_meaning.specs.declared.module.ModuleBody.TheVariants as bod
 use Rattle.reference_meaning.specs.declared.module.Resolved.{Resolved, out-Resolved}
 use Rattle.reference_meaning.specs.declared.module.Resolved.TheVariants as resolved
 use Rattle.tree_units.specs.Together.{together, with_first}
-
--- ---- the resolved form of a reference, level by level
-
-module _ (sources : List Source) (params : List (List ℕ)) where
-  abbrev fill : ArgTree → Filled
-  fill a = record { name = parameter_of a; resolved = resolved_of sources params (argument_of a) }
-
-  fill_argument : (a : ArgTree) → fold-ArgTree Filled (Option Resolved) (λ a. record { name = a.name.name; resolved = a.reference }) (resolve_step sources params) a ≡ fill a
-  fill_argument a = fold_out-ArgTree Filled (Option Resolved) (λ a. record { name = a.name.name; resolved = a.reference }) (resolve_step sources params) a
-
-  pub resolved_of-out : (q : RefTree) → resolved_of sources params q ≡ resolved_by sources (param_place params (name_of q)) (source_place sources (name_of q)) (map fill (arguments_of q))
-  resolved_of-out q = fold_out-RefTree Filled (Option Resolved) (λ a. record { name = a.name.name; resolved = a.reference }) (resolve_step sources params) q
-      ∙ (λ i. resolved_by sources (param_place params (name_of q)) (source_place sources (name_of q)) (map (λ a. fill_argument a i) (arguments_of q)))
-
-  pub filled_as_given : (arguments : List ArgTree) (name : List ℕ) → filled (map fill arguments) name ≡ option_and_then (λ a. resolved_of sources params (argument_of a)) (given arguments name)
-  filled_as_given [] name = refl
-  filled_as_given (a ∷ arguments) name = at (bytes_eq name (parameter_of a)) (filled_as_given arguments name)
-    where
-      at : (b : Bool) → filled (map fill arguments) name ≡ option_and_then (λ a. resolved_of sources params (argument_of a)) (given arguments name)
-          → option_and_then (λ f. f.resolved) (cond b (Some (fill a)) (find (λ f. bytes_eq name f.name) (map fill arguments))) ≡ option_and_then (λ a. resolved_of sources params (argument_of a)) (cond b (Some a) (given arguments name))
-      at true rest = refl
-      at false rest = rest
 
 -- ---- parameters by number
 

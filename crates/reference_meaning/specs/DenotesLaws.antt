@@ -37,7 +37,8 @@ parts_same : (R S : RefTree → Design → Type 0) → Agree R S → (a : Branch
 parts_same R S f a b c p q =
     let name = p.name ∙ sym q.name in let design = f a.reference b.design c.design p.denotes q.denotes in λ i. record { name = name i; design = design i }
 
-bodies_same : (R S : RefTree → Design → Type 0) → Agree R S → (c : Content) (b : BodyTree) (X Y : Design) → BodyDenotes R c b X → BodyDenotes S c b Y → X ≡ Y
+-- A body denotes at most one design, where its references do.
+pub bodies_same : (R S : RefTree → Design → Type 0) → Agree R S → (c : Content) (b : BodyTree) (X Y : Design) → BodyDenotes R c b X → BodyDenotes S c b Y → X ≡ Y
 bodies_same R S f c (body.Catalogue ports rows table) X Y p q = p ∙ sym q
 bodies_same R S f c (body.Choose branches) X Y p q =
     let same = pointwise_same (IsPart R) (IsPart S) branches p.0 q.0 (parts_same R S f) p.1 q.1 in p.2 ∙ ap choice_of same ∙ sym q.2

@@ -4,6 +4,7 @@ pub mod BindingLaws
 pub mod Denotes
 pub mod DenotesLaws
 pub mod Linking
+pub mod LinkingLaws
 pub mod Modules
 pub mod Ranked
 pub mod Sources

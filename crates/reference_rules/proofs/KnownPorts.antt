@@ -1,5 +1,5 @@
 -- A design has the ports that are known of its reference.
-use Rattle.std.specs.Prelude.{◌≡◌, ℕ, zero, suc, Bool, true, false, not, cond, ◌||◌, List, [], ◌∷◌, ◌++◌, map, find, is_some, Option, Some, None}
+use Rattle.std.specs.Prelude.{◌≡◌, ℕ, zero, suc, Bool, true, false, not, List, [], ◌∷◌, map, is_some, Option, Some, None}
 use Rattle.std.specs.List.{flat_map}
 use Rattle.std.specs.Str.{bytes_eq}
 use Rattle.std.proofs.Common.{refl, sym, ap, ◌∙◌, subst, inl, inr}
@@ -10,7 +10,7 @@ use Rattle.design_lexer.specs.declared.tree.ArgTree.{ArgTree}
 use Rattle.design_lexer.specs.declared.tree.BodyTree.{BodyTree}
 use Rattle.design_lexer.specs.declared.tree.BodyTree.TheVariants as body
 use Rattle.design_lexer.specs.declared.tree.BranchTree.{BranchTree}
-use Rattle.design_lexer.specs.declared.tree.RefTree.{RefTree, out-RefTree}
+use Rattle.design_lexer.specs.declared.tree.RefTree.{RefTree}
 use Rattle.design_model.specs.declared.design.Design.{Design}
 use Rattle.design_model.specs.declared.design.Part.{Part}
 use Rattle.design_model.specs.Parts.{provided_ports, required_ports}
@@ -22,11 +22,11 @@ use Rattle.fault_list.specs.declared.fault.Fault.{Fault}
 use Rattle.fault_list.specs.declared.fault.FaultKind.TheVariants.{PortsDiffer}
 use Rattle.reference_meaning.specs.BindingLaws.{IsGiven, bound_as_given}
 use Rattle.reference_meaning.specs.Denotes.{Binding, Binds, BodyDenotes, DenotesIn, IsPart, bound, choice_of}
-use Rattle.reference_meaning.specs.Sources.{Content, GiveEach, Source, argument_of, arguments_of, given, is_among, name_of, parameter_of}
+use Rattle.reference_meaning.specs.Sources.{Content, GiveEach, Source, argument_of, arguments_of, given, name_of, parameter_of}
 use Rattle.reference_rules.proofs.Outlined.{outlines_same}
 use Rattle.reference_rules.specs.Outlines.{Outlines, outlines, outlines_of, same_outlines}
-use Rattle.reference_rules.specs.ReferenceFaults.{AreFronts, Front, NoFaults, Referred, Wanted, argument_faults, body_ports, branch_faults, choice_faults, differing, given_faults, param_named, ports_by, ports_in, reference_faults, referred, unmatched, unplaced, wanted_by, wanted_in}
-use Rattle.reference_rules.specs.ReferenceLaws.{argued, ports_known, referred-out}
+use Rattle.reference_rules.specs.ReferenceFaults.{AreFronts, Front, NoFaults, Referred, Wanted, argument_faults, body_ports, branch_faults, choice_faults, differing, param_named, ports_by, ports_in, reference_faults, referred, unmatched, wanted_by, wanted_in}
+use Rattle.reference_rules.specs.ReferenceLaws.{argued, argument_none, found_passes, ports_known, wanted_there}
 
 -- Each parameter is bound to a design with the ports of its interface, and nothing else is bound.
 abbrev pub FitsAt : Option Wanted → Option Design → Type 0
@@ -37,33 +37,6 @@ FitsAt (Some w) (Some X) = outlines_of X ≡ w.ports
 
 abbrev pub Fit : List Wanted → List Binding → Type 0
 Fit params bindings = (name : List ℕ) → FitsAt (param_named params name) (bound bindings name)
-
-pub none_each : {A B : Type 0} (f : A → List B) (xs : List A) (x : A) → flat_map f xs ≡ [] → IsMember x xs → f x ≡ []
-none_each f [] x e m = absurd m
-none_each f (y ∷ ys) x e (inl is) = subst (λ z. f z ≡ []) (sym is) (none_left (f y) (flat_map f ys) e)
-none_each f (y ∷ ys) x e (inr m) = none_each f ys x (none_right (f y) (flat_map f ys) e) m
-
-found_passes : {A : Type 0} (t : A → Bool) (xs : List A) (x : A) → find t xs ≡ Some x → IsMember x xs × (t x ≡ true)
-found_passes t [] x e = absurd (cc)
-found_passes t (y ∷ ys) x e = at (t y) refl e (found_passes t ys x)
-  where
-    at : (b : Bool) → t y ≡ b → cond b (Some y) (find t ys) ≡ Some x → (find t ys ≡ Some x → IsMember x ys × (t x ≡ true)) → IsMember x (y ∷ ys) × (t x ≡ true)
-    at true is e next = let same : y ≡ x = cc in (inl (sym same), subst (λ z. t z ≡ true) same is)
-    at false is e next = let rest = next e in (inr rest.0, rest.1)
-
-member_map : {A B : Type 0} (f : A → B) (xs : List A) (x : A) → IsMember x xs → IsMember (f x) (map f xs)
-member_map f [] x m = absurd m
-member_map f (y ∷ ys) x (inl e) = inl (ap f e)
-member_map f (y ∷ ys) x (inr m) = inr (member_map f ys x m)
-
-wanted_there : (params : List Wanted) (name : List ℕ) → is_some (param_named params name) ≡ is_among (map (λ w. w.name) params) name
-wanted_there [] name = refl
-wanted_there (w ∷ ws) name = at (bytes_eq name w.name) (wanted_there ws name)
-  where
-    at : (b : Bool) → is_some (param_named ws name) ≡ is_among (map (λ w. w.name) ws) name
-        → is_some (cond b (Some w) (param_named ws name)) ≡ (b || is_among (map (λ w. w.name) ws) name)
-    at true rest = refl
-    at false rest = rest
 
 -- Where no fault is found of two lists of ports, they are the same.
 pub not_broken : (wanted ports : Outlines) (at : ℕ) → differing wanted ports at ≡ [] → wanted ≡ ports
@@ -94,20 +67,10 @@ module _ (front : List ℕ → Option Front) where
         wants_here : param_named wanted (parameter_of a) ≡ Some w
         wants_here = ap (param_named wanted) (sym ((bytes_eq-Decides name (parameter_of a)).0 found.1)) ∙ wants
 
-        wants_all : List Wanted
-        wants_all = wanted_by front (param_named params (name_of q)) (name_of q)
-
-        before : List Fault
-        before = unplaced front (param_named params (name_of q)) (out-RefTree q).name ++ given_faults wants_all (map (λ a. a.name) (map (argued front params) (arguments_of q))) (out-RefTree q).name.at
-
-        all : flat_map (argument_faults wants_all) (map (argued front params) (arguments_of q)) ≡ []
-        all = none_right before _ (sym (ap (λ (r : Referred). r.faults) (referred-out front params q)) ∙ none)
-
         here : argument_faults wanted (argued front params a) ≡ []
-        here = none_each (argument_faults wanted) (map (argued front params) (arguments_of q)) (argued front params a)
-            (subst (λ o. flat_map (argument_faults (wanted_by front o (name_of q))) (map (argued front params) (arguments_of q)) ≡ []) free all) (member_map (argued front params) (arguments_of q) a found.0)
+        here = subst (λ o. argument_faults (wanted_by front o (name_of q)) (argued front params a) ≡ []) free (argument_none front params q none a found.0)
 
-  pub choice_right : (params : List Wanted) (b : BranchTree) (bs : List BranchTree) → choice_faults front params (b ∷ bs) ≡ [] → (referred front params b.reference).faults ≡ []
+  choice_right : (params : List Wanted) (b : BranchTree) (bs : List BranchTree) → choice_faults front params (b ∷ bs) ≡ [] → (referred front params b.reference).faults ≡ []
   choice_right params b bs e = none_left _ (flat_map (branch_faults front params (referred front params b.reference).ports) bs) e
 
   choice_ports : (p : Part) (ps : List Part) → outlines_of (choice_of (p ∷ ps)) ≡ outlines_of p.design

@@ -17,15 +17,14 @@ use Rattle.design_model.specs.PartsLaws.{provided-Cat, required-Cat, provided-Ch
 use Rattle.design_model.specs.Typed.{ArePorts, ConstraintIsTyped, HasPorts, IsFew, IsTyped, IsTypedCat, IsTypedChoice, IsTypedNet}
 use Rattle.design_model.specs.TypedLaws.{IsTyped-Cat, IsTyped-Choice, IsTyped-Net}
 use Rattle.design_model.specs.Wiring.{wiring_of}
-use Rattle.fault_list.specs.FaultLaws.{none_left}
 use Rattle.fault_list.specs.RestLaws.{none_right}
 use Rattle.reference_meaning.specs.BindingLaws.{IsGiven, bound_as_given}
 use Rattle.reference_meaning.specs.Denotes.{Binding, Binds, BodyDenotes, DenotesIn, IsPart, bound, choice_of}
 use Rattle.reference_meaning.specs.Sources.{Content, GiveEach, Source, argument_of, arguments_of, body_of, given, name_of, source_named}
-use Rattle.reference_rules.proofs.KnownPorts.{Fit, FitsAt, choice_right, denoted_ports, given_right, inner_fits, none_each, not_broken, unbound}
+use Rattle.reference_rules.proofs.KnownPorts.{Fit, FitsAt, denoted_ports, given_right, inner_fits, not_broken, unbound}
 use Rattle.reference_rules.specs.Outlines.{Outlines, outlines, outlines_of}
 use Rattle.reference_rules.specs.ReferenceFaults.{AreFronts, Front, NoFaults, Wanted, branch_faults, choice_faults, param_named, reference_faults, referred, wanted_in}
-use Rattle.reference_rules.specs.ReferenceLaws.{ports_known}
+use Rattle.reference_rules.specs.ReferenceLaws.{branch_none, none_each, ports_known}
 use Rattle.reference_rules.specs.TypedFiles.{IsTypedFile, IsTypedNetFile, kinds_of, known_at, known_wiring}
 use Rattle.value_type.specs.PortKinds.{port_kinds}
 use Rattle.value_type.specs.declared.port.Port.{Port}
@@ -116,13 +115,7 @@ module _ (t : Types) (front : List ℕ → Option Front) (params : List Wanted) 
       record { typed = rw IsTyped-Choice choice; provided = rw provided-Choice h.0.good.provided; required = rw required-Choice h.0.good.required }
 
 module _ (t : Types) (front : List ℕ → Option Front) where
-  -- Each branch is without faults, and has the ports that are known of the first.
-  branch_clean : (params : List Wanted) (b : BranchTree) (bs : List BranchTree) → choice_faults front params (b ∷ bs) ≡ [] → (x : BranchTree) → IsMember x (b ∷ bs)
-      → (referred front params x.reference).faults ≡ []
-  branch_clean params b bs none x (inl e) = subst (λ y. (referred front params y.reference).faults ≡ []) (sym e) (choice_right front params b bs none)
-  branch_clean params b bs none x (inr m) =
-      none_left _ _ (none_each (branch_faults front params (referred front params b.reference).ports) bs x (none_right (referred front params b.reference).faults _ none) m)
-
+  -- Each branch has the ports that are known of the first.
   branch_same : (params : List Wanted) (b : BranchTree) (bs : List BranchTree) → choice_faults front params (b ∷ bs) ≡ [] → (x : BranchTree) → IsMember x bs
       → known_at t front params x ≡ known_at t front params b
   branch_same params b bs none x m =
@@ -138,12 +131,12 @@ module _ (t : Types) (front : List ℕ → Option Front) where
     body_good g (body.Choose []) X is none p = let some = is.0 in let never : ⊥ = omega arith in absurd never
     body_good g (body.Choose (b ∷ bs)) X is none p = subst (IsGood t) (sym p.2)
         (good_choice t front params bs b p.0 is.1
-        (pointwise_weaker (IsPart R) (IsGoodPart t front params) (b ∷ bs) p.0 (λ x y m h. part_good x y (branch_clean params b bs none x m) h) p.1)
+        (pointwise_weaker (IsPart R) (IsGoodPart t front params) (b ∷ bs) p.0 (λ x y m h. part_good x y (branch_none front params (body.Choose (b ∷ bs)) none x m) h) p.1)
         (each_made (λ x. known_at t front params x ≡ known_at t front params b) bs (branch_same params b bs none)))
     body_good g (body.Net ports instances rules) X is none p = subst (IsGood t) (sym p.2)
         (good_net t front params g instances p.0 is
         (pointwise_weaker (IsPart R) (IsGoodPart t front params) instances p.0
-        (λ x y m h. part_good x y (none_each (λ b. (referred front params b.reference).faults) instances x none m) h) p.1))
+        (λ x y m h. part_good x y (branch_none front params (body.Net ports instances rules) none x m) h) p.1))
 
   module _ (sources : List Source) (fronts : AreFronts sources front) (clean : NoFaults sources front)
       (files : (name : List ℕ) (s : Source) (b : BodyTree) (f : Front) → source_named sources name ≡ Some s → body_of s.tree ≡ Some b → front name ≡ Some f → IsTypedFile t front f.wanted s.content b) where

@@ -26,6 +26,7 @@ use Rattle.order_core.specs.Members.{IsMember}
 use Rattle.unit_check.proofs.FollowLemmas.{follow-ends, follow-next, follow-none}
 use Rattle.unit_check.proofs.MarkLemmas.{any_mapped}
 use Rattle.unit_check.proofs.PlaceLemmas.{passes_at}
+use Rattle.unit_check.specs.RefersLaws.{named_listed, refers_from}
 use Rattle.unit_check.specs.Declaring.{choice_of, declaring, file_of, next_file, next_in, params_of, part_file, ports_at, ports_in, tree_ports}
 
 -- A file that a stem stands for is of its space.
@@ -53,15 +54,12 @@ unhidden params name e = any_mapped (λ (n : NameAt). bytes_eq name n.name) (λ 
     go None is = refl
 
 module _ (find : List ℕ → Option ℕ) where
-  named_listed : (hidden : List ℕ → Bool) (name : NameAt) (j : ℕ) → hidden name.name ≡ false → find name.name ≡ Some j → IsMember j (file_named find hidden name)
-  named_listed hidden name j h f = subst (λ (t : Bool). IsMember j (cond t [] (listed (find name.name)))) (sym h) (subst (λ (o : Option ℕ). IsMember j (listed o)) (sym f) (inl refl))
-
   branch_refers : (hidden : List ℕ → Bool) (b : BranchTree) (branches : List BranchTree) (j : ℕ) → hidden (out-RefTree b.reference).name.name ≡ false → find (out-RefTree b.reference).name.name ≡ Some j
       → IsMember j (refers find hidden (b ∷ branches))
   branch_refers hidden b branches j h f =
       let name = (out-RefTree b.reference).name in
       let named : IsMember name (reference_names b.reference) = subst (λ (names : List NameAt). IsMember name names) (sym (reference_names_is b.reference)) (inl refl) in
-      mem-left (flat_map (file_named find hidden) (reference_names b.reference)) _ j (flat_map-mem (file_named find hidden) (reference_names b.reference) name j named (named_listed hidden name j h f))
+      mem-left (flat_map (file_named find hidden) (reference_names b.reference)) _ j (flat_map-mem (file_named find hidden) (reference_names b.reference) name j named (named_listed find hidden name j h f))
 
   body_refers : (hidden : List ℕ → Bool) (t : BodyTree) (b : BranchTree) (j : ℕ) → choice_of (file.Design t) ≡ Some b → hidden (out-RefTree b.reference).name.name ≡ false → find (out-RefTree b.reference).name.name ≡ Some j
       → IsMember j (refers find hidden (branches_of t))
@@ -77,19 +75,6 @@ module _ (find : List ℕ → Option ℕ) where
   first_refers (file.Interface ports) b j e h g = absurd (cc)
   first_refers (file.Design t) b j e h g = body_refers (is_param []) t b j e h g
   first_refers (file.Template params t) b j e h g = body_refers (is_param params) t b j e h g
-
-  refers_from : (s : ℕ) (files : List SourceFile) (k j : ℕ) (f : SourceFile) → slice_get files k ≡ Some f → IsMember j (file_refers find f.tree) → IsMember {A = ℕ × ℕ} (k + s, j) (references_from find s files)
-  refers_from s [] k j f e m = absurd (cc)
-  refers_from s (x ∷ xs) zero j f e m =
-      let same : x ≡ f = cc in
-      let own : IsMember j (file_refers find x.tree) = subst (λ (y : SourceFile). IsMember j (file_refers find y.tree)) (sym same) m in
-      let here : s ≡ 0 + s = omega arith in
-      subst (λ (i : ℕ). IsMember {A = ℕ × ℕ} (i, j) (references_from find s (x ∷ xs))) here
-      (mem-left {A = ℕ × ℕ} (map (λ j. (s, j)) (file_refers find x.tree)) (references_from find (s + 1) xs) (s, j) (map-mem {A = ℕ} {B = ℕ × ℕ} (λ j. (s, j)) (file_refers find x.tree) j own))
-  refers_from s (x ∷ xs) (suc k) j f e m =
-      let same : k + (s + 1) ≡ suc k + s = omega arith in
-      mem-right {A = ℕ × ℕ} (map (λ j. (s, j)) (file_refers find x.tree)) (references_from find (s + 1) xs) (suc k + s, j)
-      (subst (λ (i : ℕ). IsMember {A = ℕ × ℕ} (i, j) (references_from find (s + 1) xs)) same (refers_from (s + 1) xs k j f e m))
 
 body_is_design : (f : File) (b : BranchTree) → choice_of f ≡ Some b → is_design f ≡ true
 body_is_design (file.Poset poset) b e = absurd (cc)

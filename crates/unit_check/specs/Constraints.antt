@@ -1,5 +1,5 @@
 -- The constraints that the rules of a net write.
-use Rattle.std.specs.Prelude.{List, [], ◌∷◌, map, Option, Some, option_map}
+use Rattle.std.specs.Prelude.{List, [], ◌∷◌, map, Option, Some, None, option_map}
 use Rattle.std.specs.List.{flat_map}
 use Rattle.design_lexer.specs.declared.tree.RuleTree.{RuleTree}
 use Rattle.design_lexer.specs.declared.tree.RuleTree.TheVariants as rule
@@ -14,6 +14,11 @@ use Rattle.order_core.specs.Pointwise.{Pointwise}
 use Rattle.unit_check.specs.Scopes.{PartPorts, ScopePorts, Target, readable, target}
 use Rattle.value_type.specs.PortKinds.{port_kinds}
 use Rattle.value_type.specs.declared.poset.Types.{Types}
+
+-- what may be there, as a list
+abbrev pub listed : Option Constraint → List Constraint
+listed (Some c) = c ∷ []
+listed None = []
 
 -- the constraint of a greater port and a lower expression, where both are there
 abbrev pub constraint_by : Option Target → Option Lower → List Constraint

@@ -8,6 +8,8 @@ pub mod Held
 pub mod Marks
 pub mod Named
 pub mod PortLaws
+pub mod RefersLaws
+pub mod RuleLaws
 pub mod Rules
 pub mod Scopes
 pub mod Told

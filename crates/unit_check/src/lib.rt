@@ -22,6 +22,7 @@ pub use laws::{
     rules_are_typed,
 };
 pub use parameters::Parameters;
+pub use rules::constraints_of;
 pub use scope::{Scope, ScopePart};
 pub use shared::Shared;
 pub use table::PortTable;

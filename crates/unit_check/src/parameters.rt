@@ -1,4 +1,4 @@
-ghost use Rattle.std.specs.Prelude.{◌≡◌, ◌<◌, ◌^◌, ℕ, List, IfOk, is_some, length};
+ghost use Rattle.std.specs.Prelude.{◌≡◌, ◌<◌, ◌^◌, ℕ, List, IfOk, length};
 ghost use Rattle.std.specs.Option.{option_copied};
 ghost use Rattle.name_index.specs.Names.{number_of};
 ghost use Rattle.name_index.specs.Places.{named_item, place_of};
@@ -29,18 +29,18 @@ impl<'a> Parameters<'a> {
         Ok(Parameters { trees, numbers })
     }
 
-    /// Whether a parameter has this name.
-    pub fn has(&self, name: &str) -> bool
-        ensures { result ≡ is_some (place_of (λ p. p.name.name) self.now.trees.now name.now) }
+    /// The number of the first parameter of this name.
+    pub fn number(&self, name: &str) -> Option<u32>
+        ensures { result ≡ place_of (λ p. p.name.name) self.now.trees.now name.now }
     {
-        self.numbers.get(name).is_some()
+        self.numbers.get(name)
     }
 
     /// The first parameter of this name.
     fn named(&self, name: &str) -> Option<&ParamTree>
         ensures { option_copied result ≡ named_item (λ p. p.name.name) self.now.trees.now name.now }
     {
-        let number = self.numbers.get(name)?;
+        let number = self.number(name)?;
         self.trees.get(number as usize)
     }
 

@@ -11,7 +11,7 @@ ghost use Rattle.unit_check.specs.Scopes.{readable, scope_at};
 ghost use Rattle.unit_check.specs.TypeFaults.{file_port_faults, file_rule_faults, rule_faults_from, scope_faults, type_faults};
 ghost use Rattle.unit_check.specs.TypeFaults as spec;
 
-use crate::rules::check_rules;
+use crate::rules::constraints_of;
 use crate::scope::Scope;
 use crate::table::PortTable;
 use design_lexer::{BodyTree, ExprTree, File, RuleTree};
@@ -104,8 +104,8 @@ fn check_file(
         return Ok(());
     }
     let scope = table.scope(alloc, names, number)?;
-    match check_rules(alloc, names, &scope, rules) {
-        Ok(()) => Ok(()),
+    match constraints_of(alloc, names, &scope, rules) {
+        Ok(_) => Ok(()),
         Err(stop) => Err(in_file(alloc, &file.name, stop)),
     }
 }

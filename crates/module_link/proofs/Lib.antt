@@ -1,0 +1,5 @@
+mod FindLemmas
+mod GivenLemmas
+mod LinkLemmas
+mod ModuleLemmas
+mod ResolveLemmas
