@@ -1,0 +1,11 @@
+mod FrontLemmas
+mod LimitLemmas
+mod MadeLemmas
+mod MeaningLemmas
+mod NamedLemmas
+mod OrderLemmas
+mod PlacedLemmas
+mod RankLemmas
+mod ResolvedLemmas
+mod SourceLemmas
+mod TypedLemmas
