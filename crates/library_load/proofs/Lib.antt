@@ -1,5 +1,7 @@
 mod FrontLemmas
+mod LibraryLemmas
 mod LimitLemmas
+mod LoadedLemmas
 mod MadeLemmas
 mod MeaningLemmas
 mod NamedLemmas
@@ -7,5 +9,7 @@ mod OrderLemmas
 mod PlacedLemmas
 mod RankLemmas
 mod ResolvedLemmas
+mod SoundLemmas
 mod SourceLemmas
+mod StageLemmas
 mod TypedLemmas

@@ -1,5 +1,5 @@
 -- What the modules of designs make.
-use Rattle.std.proofs.Common.{◌≡◌, ◌∙◌, ◌+◌, ◌&&◌, arith, refl, ap, subst, ℕ, Bool, true, false, List, []}
+use Rattle.std.proofs.Common.{◌≡◌, ◌∙◌, ◌+◌, ◌&&◌, arith, refl, ap, subst, ℕ, true, List, []}
 use Rattle.std.proofs.lemmas.Slice.Eq.{bytes_eq-Decides}
 use Rattle.std.specs.Prelude.{Some, is_some, slice_get}
 use Rattle.std.specs.Str.{bytes_eq}
@@ -19,7 +19,7 @@ use Rattle.name_table.specs.Files.{is_design, stem_place}
 use Rattle.name_table.specs.NameFaults.{name_faults}
 use Rattle.name_table.specs.declared.source.SourceFile.{SourceFile}
 use Rattle.name_table.specs.declared.source.Table.{Table}
-use Rattle.order_core.specs.MemberLaws.{got_member}
+use Rattle.order_core.specs.MemberLaws.{first, got_member, second}
 use Rattle.order_core.specs.Members.{IsMember}
 use Rattle.reference_meaning.specs.Denotes.{DesignDenotes, FileDenotes}
 use Rattle.reference_meaning.specs.Linking.{IsModuleOf}
@@ -27,10 +27,6 @@ use Rattle.reference_meaning.specs.Modules.{ModuleMakes, Modules}
 use Rattle.reference_meaning.specs.Sources.{Source, body_of, design_named, is_closed, params_of}
 use Rattle.reference_meaning.specs.declared.module.Module.{Module}
 use Rattle.value_type.specs.declared.poset.Types.{Types}
-
-pair : (a b : Bool) → a && b ≡ true → (a ≡ true) × (b ≡ true)
-pair true b e = (refl, e)
-pair false b e = absurd (cc)
 
 module _ (files : List SourceFile) (tables : List Table) (types : Types) (modules : Modules) (are : AreModulesOf files tables types modules)
     (unique : (f : SourceFile) (rows others : List CatRow) → HasRows tables types f rows → HasRows tables types f others → rows ≡ others)
@@ -43,7 +39,7 @@ module _ (files : List SourceFile) (tables : List Table) (types : Types) (module
       (place_same files tables types are.sources are.are_sources name ∙ place ∙ ap (λ (k : ℕ). Some k) at) got (λ j. closed j && same j)
     where
       narrow : (t : Source) → is_closed t.tree && bytes_eq name t.stem ≡ true → is_some (body_of t.tree) && bytes_eq name t.stem ≡ true
-      narrow t e = let w = pair (is_closed t.tree) (bytes_eq name t.stem) e in let b = closed_body t.tree w.0 in λ j. ap is_some b.1 j && w.1 j
+      narrow t e = let b = closed_body t.tree (first (is_closed t.tree) _ e) in λ j. ap is_some b.1 j && second (is_closed t.tree) (bytes_eq name t.stem) e j
 
   -- The module of a design makes what the design's name denotes.
   pub design_makes : (name : List ℕ) (i : ℕ) (f : SourceFile) (X : Design) → stem_place is_design files name ≡ Some i → slice_get files i ≡ Some f → is_closed f.tree ≡ true → bytes_eq name f.stem ≡ true → IsDesign files tables types name X

@@ -34,7 +34,7 @@ use Rattle.reference_rules.specs.ReferenceLaws.{found_passes, found_there}
 use Rattle.value_type.specs.declared.poset.Types.{Types}
 
 -- The first item that passes, where some item does.
-found : {A : Type 0} (t : A → Bool) (xs : List A) (x : A) → IsMember x xs → IsTrue (t x) → (y : A) × (find t xs ≡ Some y) × IsMember y xs × (t y ≡ true)
+pub found : {A : Type 0} (t : A → Bool) (xs : List A) (x : A) → IsMember x xs → IsTrue (t x) → (y : A) × (find t xs ≡ Some y) × IsMember y xs × (t y ≡ true)
 found {A = A} t xs x m h = go (find t xs) refl (found_there t xs ∙ any_intro t xs x m h)
   where
     go : (o : Option A) → find t xs ≡ o → is_some o ≡ true → (y : A) × (find t xs ≡ Some y) × IsMember y xs × (t y ≡ true)

@@ -16,7 +16,7 @@ use Rattle.name_table.specs.NameFaults.{file_faults, name_faults}
 use Rattle.name_table.specs.References.{circular_faults}
 use Rattle.name_table.specs.declared.source.SourceFile.{SourceFile}
 use Rattle.name_table.specs.declared.source.Table.{Table}
-use Rattle.order_core.specs.MemberLaws.{append_nil}
+use Rattle.order_core.specs.MemberLaws.{append_nil, first, second}
 use Rattle.reference_meaning.specs.Sources.{is_closed}
 
 -- ---- places
@@ -113,9 +113,5 @@ module _ (files : List SourceFile) (tables : List Table) (none : name_faults fil
       let at : i ≡ 0 + i = omega arith in
       first_found (λ (g : SourceFile). is_design g.tree && bytes_eq stem g.stem) (λ g. is_closed g.tree && bytes_eq stem g.stem) narrow 0 files i f (place ∙ ap (λ (k : ℕ). Some k) at) got (λ j. closed j && same j)
     where
-      pair : (a b : Bool) → a && b ≡ true → (a ≡ true) × (b ≡ true)
-      pair true b e = (refl, e)
-      pair false b e = absurd (cc)
-
       narrow : (g : SourceFile) → is_closed g.tree && bytes_eq stem g.stem ≡ true → is_design g.tree && bytes_eq stem g.stem ≡ true
-      narrow g e = let w = pair (is_closed g.tree) (bytes_eq stem g.stem) e in λ j. closed_design g.tree w.0 j && w.1 j
+      narrow g e = λ j. closed_design g.tree (first (is_closed g.tree) _ e) j && second (is_closed g.tree) (bytes_eq stem g.stem) e j

@@ -16,7 +16,7 @@ use Rattle.name_index.specs.PlaceLaws.{position_below}
 use Rattle.name_table.specs.Files.{is_design, stem_place}
 use Rattle.name_table.specs.declared.source.SourceFile.{SourceFile}
 use Rattle.name_table.specs.declared.source.Table.{Table}
-use Rattle.order_core.specs.MemberLaws.{first, got_member}
+use Rattle.order_core.specs.MemberLaws.{first, got_member, second}
 use Rattle.order_core.specs.Members.{IsMember}
 use Rattle.order_core.specs.Pointwise.{Each}
 use Rattle.order_core.specs.PointwiseLaws.{each_got}
@@ -76,14 +76,14 @@ partners_made R (x ∷ xs) h =
 
 -- ---- files by their stems
 
--- A file that a stem stands for is of its space.
-pub stem_found : (files : List SourceFile) (space : File → Bool) (stem : List ℕ) (j : ℕ) → stem_place space files stem ≡ Some j → (g : SourceFile) × (slice_get files j ≡ Some g) × (space g.tree ≡ true)
+-- A file that a stem stands for is of its space, and has the stem.
+pub stem_found : (files : List SourceFile) (space : File → Bool) (stem : List ℕ) (j : ℕ) → stem_place space files stem ≡ Some j → (g : SourceFile) × (slice_get files j ≡ Some g) × (space g.tree ≡ true) × (bytes_eq stem g.stem ≡ true)
 stem_found files space stem j e =
     let l = position_below (λ (f : SourceFile). space f.tree && bytes_eq stem f.stem) 0 files j e in
     let g = got_at files j (omega (arith, l)) in
     let same : j ≡ j + 0 = omega arith in
     let passes = passes_at (λ (f : SourceFile). space f.tree && bytes_eq stem f.stem) 0 files j g.0 (e ∙ ap (λ (z : ℕ). Some z) same) g.1 in
-    (g.0, g.1, first (space g.0.tree) _ passes)
+    (g.0, g.1, first (space g.0.tree) _ passes, second (space g.0.tree) _ passes)
 
 body_there : (tree : File) → is_some (body_of tree) ≡ is_design tree
 body_there (file.Poset poset) = refl

@@ -1,11 +1,11 @@
 //! What holds of the designs of a library. Each law is the promise of a function that does nothing.
 
-ghost use Rattle.std.specs.Prelude.{◌≡◌, ℕ, List, [], true};
+ghost use Rattle.std.specs.Prelude.{◌≡◌, ℕ, List, None, [], true};
 ghost use Rattle.catalogue_read.specs.Catalogues.{HasSomeRows};
 ghost use Rattle.design_model.specs.Typed.{IsTyped};
 ghost use Rattle.design_model.specs.declared.design.Design.{Design};
 ghost use Rattle.library_files.specs.Branches.{HasBranch};
-ghost use Rattle.library_load.specs.Designs.{HasFewRows, IsDesign};
+ghost use Rattle.library_load.specs.Designs.{HasFewRows, IsDesign, design_file};
 ghost use Rattle.module_link.specs.Links.{IsUnresolved};
 ghost use Rattle.name_table.specs.declared.source.SourceFile.{SourceFile};
 ghost use Rattle.name_table.specs.declared.source.Table.{Table};
@@ -23,9 +23,10 @@ use reference_rules::references_denote_typed_designs;
 use side_ports::ports_are_typed;
 use unit_check::{choices_have_the_ports_of_their_first_branch, rules_are_typed};
 
-/// A name is that of one design at most.
+/// A name is that of one design at most, and only of one that a file writes.
 pub fn names_have_one_design()
-    ensures { (files : List SourceFile) (tables : List Table) (types : Types) (name : List ℕ) (X Y : Design) → IsDesign files tables types name X → IsDesign files tables types name Y → X ≡ Y }
+    ensures there { (files : List SourceFile) (tables : List Table) (types : Types) (name : List ℕ) (X : Design) → IsDesign files tables types name X → design_file files name ≡ None → ⊥ }
+    ensures one { (files : List SourceFile) (tables : List Table) (types : Types) (name : List ℕ) (X Y : Design) → IsDesign files tables types name X → IsDesign files tables types name Y → X ≡ Y }
 {
     files_have_one_list_of_rows();
     meaning_is_unique();

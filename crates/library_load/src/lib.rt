@@ -1,11 +1,17 @@
-//! The designs of a library, what they denote, and their limits.
+//! The libraries of folders, what their designs denote, and their limits.
 #![tactic(auto)]
 
 mod laws;
+mod library;
 mod limits;
+mod loading;
 mod order;
+mod stages;
 
 pub use laws::{
     designs_are_typed, designs_have_meanings, names_have_one_design, references_are_resolved,
 };
+pub use library::Library;
+pub use library_files::{FaultKind, FileFault, LibraryFault, LoadFault};
 pub use limits::check_limits;
+pub use loading::load;
