@@ -2,7 +2,7 @@
 use Rattle.std.proofs.Common.{◌≡◌, ◌∙◌, ◌<◌, ◌^◌, ap, refl, sym, subst, ℕ, List, [], get_or, length}
 use Rattle.std.proofs.lemmas.Option.{slice_get_read}
 use Rattle.std.specs.Prelude.{Option, Some, Result, Err, slice_get}
-use Rattle.catalogue_read.specs.Catalogues.{AnswersBy, AreListed, AreRowsOf, Catalogue, HasBadRow, HasRows, IsBadList, IsFaultIn, IsRowFaultOf, catalogue_in, catalogue_of}
+use Rattle.catalogue_read.specs.Catalogues.{AreListed, AreRowsOf, Catalogue, HasBadRow, HasRows, IsBadList, IsFaultIn, IsRowFaultOf, catalogue_in, catalogue_of}
 use Rattle.design_lexer.specs.declared.tree.BodyTree.{BodyTree}
 use Rattle.design_lexer.specs.declared.tree.BodyTree.TheVariants as body
 use Rattle.design_lexer.specs.declared.tree.File.{File}
@@ -12,6 +12,7 @@ use Rattle.design_lexer.specs.declared.tree.Side.{Side}
 use Rattle.design_lexer.specs.declared.tree.Side.TheVariants.{Provides, Requires}
 use Rattle.design_model.specs.declared.design.CatRow.{CatRow}
 use Rattle.fault_list.specs.Answers.{IsInFile}
+use Rattle.fault_list.specs.FirstBad.{AnswersBy}
 use Rattle.fault_list.specs.declared.fault.Fault.{Fault}
 use Rattle.fault_list.specs.declared.fault.FileFault.{FileFault}
 use Rattle.fault_list.specs.declared.fault.Stop.{Stop}

@@ -1,5 +1,5 @@
 -- The rows of the catalogues of a library, and what is wrong with them.
-use Rattle.std.specs.Prelude.{◌≡◌, ℕ, List, [], Option, Some, None, Result, Ok, Err, option_and_then, slice_get}
+use Rattle.std.specs.Prelude.{◌≡◌, ℕ, List, [], Option, Some, None, option_and_then, slice_get}
 use Rattle.std.specs.List.{flat_map}
 use Rattle.design_lexer.specs.declared.tree.BodyTree.{BodyTree}
 use Rattle.design_lexer.specs.declared.tree.BodyTree.TheVariants as body
@@ -13,8 +13,6 @@ use Rattle.fault_list.specs.Faults.{first_fault, in_file, named}
 use Rattle.fault_list.specs.declared.fault.Fault.{Fault}
 use Rattle.fault_list.specs.declared.fault.FaultKind.TheVariants.{Unknown}
 use Rattle.fault_list.specs.declared.fault.FileFault.{FileFault}
-use Rattle.fault_list.specs.declared.fault.Stop.{Stop}
-use Rattle.fault_list.specs.declared.fault.Stop.TheVariants as stop
 use Rattle.name_table.specs.Files.{table_place}
 use Rattle.name_table.specs.declared.source.SourceFile.{SourceFile}
 use Rattle.name_table.specs.declared.source.Table.{Table}
@@ -112,11 +110,3 @@ IsRowFaultOf tables types file None fault = ⊥
 -- It is the first fault of the file's rows. One that is no catalogue has none.
 abbrev pub HasBadRow : List Table → Types → SourceFile → FileFault → Type 0
 HasBadRow tables types f fault = IsRowFaultOf tables types f.name (catalogue_of f.tree) fault
-
--- ---- answers
-
--- Something with the first property, or a fault with the second. Want of memory says nothing.
-abbrev pub AnswersBy : {A F : Type 0} → (A → Type 0) → (F → Type 0) → Result A (Stop F) → Type 0
-AnswersBy Good Bad (Ok x) = Good x
-AnswersBy Good Bad (Err (stop.At fault)) = Bad fault
-AnswersBy Good Bad (Err stop.Memory) = Unit {0}

@@ -1,4 +1,3 @@
--- Read Catalogues first: the rows of a file, and what is wrong with them. Modules whose names end in Laws hold lemmas.
+-- Read Catalogues first: the rows of a file, and what is wrong with them.
 pub mod Catalogues
-pub mod FirstBadLaws
 pub mod Held

@@ -7,6 +7,6 @@ mod laws;
 mod rows;
 
 pub use check::{check_rows, library_rows};
-pub use laws::{files_have_one_list_of_rows, rows_of_files_are_typed};
+pub use laws::{files_have_one_bad_row, files_have_one_list_of_rows, rows_of_files_are_typed};
 pub use row_values::{CellFault, Rounding, value_of_tree};
 pub use rows::{rows_of, rows_with};

@@ -2,7 +2,8 @@ ghost use Rattle.std.specs.Prelude.{◌≡◌, ◌<◌, ◌^◌, [], IfOk, Some,
 ghost use Rattle.std.specs.List.{flat_map};
 ghost use Rattle.std.specs.Option.{option_copied};
 ghost use Rattle.catalogue_read.specs.Catalogues as spec;
-ghost use Rattle.catalogue_read.specs.Catalogues.{AnswersBy, Catalogue, HasBadRow, HasRows, HasSoundPorts};
+ghost use Rattle.catalogue_read.specs.Catalogues.{Catalogue, HasBadRow, HasRows, HasSoundPorts};
+ghost use Rattle.fault_list.specs.FirstBad.{AnswersBy};
 ghost use Rattle.name_rules.specs.Sizes.{IsSmall};
 ghost use Rattle.name_table.specs.declared.source.SourceFile.{SourceFile};
 ghost use Rattle.side_ports.specs.Held.{sides_held};

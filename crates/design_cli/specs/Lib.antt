@@ -1,12 +1,7 @@
--- Read Outcome first: what a run answers. Then Library, Report and Words. Modules whose names end in Laws hold
--- lemmas.
-pub mod ByteOrder
-pub mod FileAnswers
-pub mod Judged
+-- Read Outcome first: what a run answers. Then Report and Words.
 pub mod Library
 pub mod Lines
-pub mod Listing
+pub mod OneWay
 pub mod Outcome
-pub mod Posets
 pub mod Report
 pub mod Words

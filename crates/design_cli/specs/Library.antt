@@ -1,45 +1,60 @@
--- A library: the files of a folder that are read, and the designs that they write.
-use Rattle.std.specs.Prelude.{◌≡◌, ◌≤◌, ℕ, IsTrue, not, List, ◌++◌, length, filter, codes}
-use Rattle.std.specs.Str.{bytes_eq}
-use Rattle.order_core.specs.Members.{IsMember}
-use Rattle.design_world.specs.Files.{File}
+-- What is answered from a library that was loaded.
+use Rattle.std.specs.Prelude.{◌≡◌, ℕ, IsTrue, not, List, None, Result, Ok, Err}
+use Rattle.design_cli.specs.Report.{report}
+use Rattle.design_cli.specs.declared.status.Status.{Status}
+use Rattle.design_cli.specs.declared.status.Status.TheVariants.{QueryRefused, Memory}
+use Rattle.design_model.specs.Feasible.{AreMinima}
+use Rattle.design_model.specs.Parts.{is_catalogue, required_ports}
 use Rattle.design_model.specs.declared.design.Design.{Design}
-use Rattle.design_cli.specs.ByteOrder.{is_before}
-use Rattle.plain_form.specs.Names.{is_named_with, is_recognised}
-use Rattle.plain_form.specs.Plain.{IsPlain}
+use Rattle.library_load.specs.Designs.{IsDesign, design_file}
+use Rattle.library_load.specs.declared.library.Library.{Library}
+use Rattle.query_read.specs.Queries.{IsQuery, IsQueryFault}
+use Rattle.query_read.specs.declared.query.QueryFault.{QueryFault}
+use Rattle.query_read.specs.declared.query.QueryFault.TheVariants as query
+use Rattle.value_type.specs.declared.poset.Types.{Types}
+use Rattle.value_type.specs.declared.value.Value.{Value}
 
--- what follows the name of a design in the name of its file
-unfoldable pub design_extension : List ℕ
-design_extension = codes ".mcdp"
+-- The library's design of this name.
+abbrev pub IsNamed : Library → List ℕ → Design → Type 0
+IsNamed library name design = IsDesign library.names.files library.names.tables library.names.types name design
 
--- how many files have the name
-abbrev pub times_named : List File → List ℕ → ℕ
-times_named files name = length (filter (λ file. bytes_eq name file.name) files)
+-- The text is the report of the minima of the catalogue.
+pub record IsReportOf (types : Types) (design : Design) (f : List Value) (text : List ℕ) : Type 0 where
+  pub rows : List (List Value)
+  pub minima : AreMinima types design f rows
+  pub text_is : text ≡ report types (required_ports design) rows
 
--- The file stands once in the folder, has at most 1,048,576 bytes, and writes a catalogue.
-pub record IsAccepted (files : List File) (file : File) : Type 0 where
-  pub once : times_named files file.name ≡ 1
-  pub short : length file.bytes ≤ 1048576
-  pub design : IsTrue (is_named_with file.name design_extension)
-  pub plain : (catalogue : Design) × IsPlain file.bytes catalogue
+-- The library has the design, and the text is its report for what the query writes.
+pub record Reports (library : Library) (name asked text : List ℕ) : Type 0 where
+  pub design : Design
+  pub is_design : IsNamed library name design
+  pub f : List Value
+  pub is_query : IsQuery library.names.types design asked f
+  pub catalogue : IsTrue (is_catalogue design)
+  pub report_of : IsReportOf library.names.types design f text
 
--- Each file that is read is accepted.
-abbrev pub AreAccepted : List File → Type 0
-AreAccepted files = (file : File) → IsMember file files → IsTrue (is_recognised file.name) → IsAccepted files file
+-- The library has the design, and this is the fault of the query.
+pub record HasFault (library : Library) (name asked : List ℕ) (fault : QueryFault) : Type 0 where
+  pub design : Design
+  pub is_design : IsNamed library name design
+  pub bad : IsQueryFault library.names.types design asked fault
 
--- A file that is read, has this name and isn't accepted, where no other such one comes before it in the order of bytes.
-pub record IsFirstRefused (files : List File) (name : List ℕ) : Type 0 where
-  pub file : File
-  pub listed : IsMember file files
-  pub named : file.name ≡ name
-  pub recognised : IsTrue (is_recognised file.name)
-  pub refused : IsAccepted files file → ⊥
-  pub first : (other : File) → IsMember other files → IsTrue (is_recognised other.name) → (IsAccepted files other → ⊥) → IsTrue (not (is_before other.name name))
+-- The library has the design, which is no catalogue, and the query writes something for it.
+pub record IsOther (library : Library) (name asked : List ℕ) : Type 0 where
+  pub design : Design
+  pub is_design : IsNamed library name design
+  pub f : List Value
+  pub is_query : IsQuery library.names.types design asked f
+  pub other : IsTrue (not (is_catalogue design))
 
--- A file that is read writes the design of this name.
-pub record IsDesign (files : List File) (name : List ℕ) (catalogue : Design) : Type 0 where
-  pub file : File
-  pub listed : IsMember file files
-  pub named : file.name ≡ name ++ design_extension
-  pub recognised : IsTrue (is_recognised file.name)
-  pub plain : IsPlain file.bytes catalogue
+abbrev pub RefusesQuery : Library → List ℕ → List ℕ → QueryFault → Type 0
+RefusesQuery library name asked query.NoDesign = design_file library.names.files name ≡ None
+RefusesQuery library name asked query.NotYet = IsOther library name asked
+RefusesQuery library name asked fault = HasFault library name asked fault
+
+-- The report, or why the query is refused. Want of memory says nothing.
+abbrev pub Answers : Library → List ℕ → List ℕ → Result (List ℕ) Status → Type 0
+Answers library name asked (Ok text) = Reports library name asked text
+Answers library name asked (Err (QueryRefused fault)) = RefusesQuery library name asked fault
+Answers library name asked (Err Memory) = Unit {0}
+Answers library name asked (Err status) = ⊥

@@ -1,91 +1,108 @@
 -- What `solve` answers.
 use Rattle.std.specs.Option.{ForSome}
-use Rattle.std.specs.Prelude.{◌≡◌, ◌⊎◌, ℕ, List, Option, Some, None, Result, Ok, Err, take}
-use Rattle.value_type.specs.declared.value.Value.{Value}
-use Rattle.design_world.specs.Bytes.{followed}
-use Rattle.design_world.specs.Files.{File}
-use Rattle.design_model.specs.declared.design.Design.{Design}
+use Rattle.std.specs.Prelude.{◌≡◌, ◌⊎◌, ℕ, IsTrue, not, List, Option, Some, None, Result, Ok, Err, take}
+use Rattle.design_cli.specs.Report.{report}
+use Rattle.design_cli.specs.Words.{Asked, asked_by}
 use Rattle.design_cli.specs.declared.status.Status.{Status}
 use Rattle.design_cli.specs.declared.status.Status.TheVariants.{Done, Usage, LibraryRefused, QueryRefused, FolderFault, SinkFault, Memory}
-use Rattle.design_cli.specs.declared.status.LibraryFault.{LibraryFault}
-use Rattle.design_cli.specs.declared.status.LibraryFault.TheVariants as library
-use Rattle.design_cli.specs.declared.status.QueryFault.{QueryFault}
-use Rattle.design_cli.specs.declared.status.QueryFault.TheVariants as query
 use Rattle.design_model.specs.Feasible.{AreMinima}
-use Rattle.design_cli.specs.Library.{AreAccepted, IsDesign, IsFirstRefused}
-use Rattle.plain_form.specs.Plain.{IsQuery}
-use Rattle.design_cli.specs.Report.{report}
-use Rattle.design_model.specs.Parts.{provided_ports, required_ports}
-use Rattle.design_cli.specs.Words.{Asked, asked_by}
-use Rattle.design_cli.specs.Posets.{no_posets}
-
--- The library is accepted, has the design of this name, and the text writes this query of it.
-pub record Asks (asked : Asked) (files : List File) (catalogue : Design) (f : List Value) : Type 0 where
-  pub accepted : AreAccepted files
-  pub design : IsDesign files asked.name catalogue
-  pub is_query : IsQuery asked.query (provided_ports catalogue) f
+use Rattle.design_model.specs.Parts.{is_catalogue, required_ports}
+use Rattle.design_model.specs.declared.design.Design.{Design}
+use Rattle.design_world.specs.Bytes.{followed}
+use Rattle.design_world.specs.Files.{File}
+use Rattle.library_files.specs.declared.parse.Parsed.{Parsed}
+use Rattle.library_load.specs.Designs.{IsDesign, design_file}
+use Rattle.library_load.specs.Loaded.{IsAccepted, IsRefused}
+use Rattle.query_read.specs.Queries.{IsQuery, IsQueryFault}
+use Rattle.query_read.specs.declared.query.QueryFault.{QueryFault}
+use Rattle.query_read.specs.declared.query.QueryFault.TheVariants as query
+use Rattle.value_type.specs.declared.poset.Types.{Types}
+use Rattle.value_type.specs.declared.value.Value.{Value}
 
 -- What holds of the question that the words ask, and of the files of the folder that it names.
 abbrev pub ForAsked : List (List ℕ) → (List ℕ → Option (List File)) → (Asked → List File → Type 0) → Type 0
 ForAsked words folder P = ForSome (asked_by words) (λ asked. ForSome (folder asked.place) (λ files. P asked files))
 
--- The text is the report of the minima of a catalogue for what the query writes.
-pub record IsReportOf (catalogue : Design) (asked text : List ℕ) : Type 0 where
-  pub f : List Value
-  pub is_query : IsQuery asked (provided_ports catalogue) f
-  pub rows : List (List Value)
-  pub minima : AreMinima no_posets catalogue f rows
-  pub text_is : text ≡ report (required_ports catalogue) rows
+-- ---- libraries and queries
 
--- The library is accepted, and the text is the report of its design of this name.
-pub record IsReport (files : List File) (name asked text : List ℕ) : Type 0 where
-  pub accepted : AreAccepted files
-  pub catalogue : Design
-  pub design : IsDesign files name catalogue
-  pub report_of : IsReportOf catalogue asked text
+-- The library of the files is accepted, and this is its design of the name, with the library's types.
+pub record HasDesign (files : List File) (name : List ℕ) (types : Types) (design : Design) : Type 0 where
+  pub made : Parsed
+  pub accepted : IsAccepted files made types
+  pub is_design : IsDesign made.files made.tables types name design
 
--- The library is accepted, and has no design of this name.
+-- The library of the files is accepted and has the design, and the query is accepted: it writes this functionality.
+pub record Asks (asked : Asked) (files : List File) (types : Types) (design : Design) (f : List Value) : Type 0 where
+  pub has : HasDesign files asked.name types design
+  pub is_query : IsQuery types design asked.query f
+
+-- The library is accepted, and no design has the name.
 pub record HasNoDesign (files : List File) (name : List ℕ) : Type 0 where
-  pub accepted : AreAccepted files
-  pub none : (catalogue : Design) → IsDesign files name catalogue → ⊥
+  pub made : Parsed
+  pub types : Types
+  pub accepted : IsAccepted files made types
+  pub none : design_file made.files name ≡ None
 
--- The library is accepted and has the design, but the text writes no query for it.
-pub record HasNoQuery (files : List File) (name asked : List ℕ) : Type 0 where
-  pub accepted : AreAccepted files
-  pub catalogue : Design
-  pub design : IsDesign files name catalogue
-  pub none : (f : List Value) → IsQuery asked (provided_ports catalogue) f → ⊥
+-- The library is accepted and has the design, and this is the fault of the query.
+pub record HasBadQuery (asked : Asked) (files : List File) (fault : QueryFault) : Type 0 where
+  pub types : Types
+  pub design : Design
+  pub has : HasDesign files asked.name types design
+  pub bad : IsQueryFault types design asked.query fault
 
--- Why a library or a query was refused.
-abbrev pub IsLibraryRefusal : List File → LibraryFault → Type 0
-IsLibraryRefusal files (library.NotYet file) = IsFirstRefused files file
+-- Library and query are accepted, and the design is no catalogue.
+pub record AsksOther (asked : Asked) (files : List File) : Type 0 where
+  pub types : Types
+  pub design : Design
+  pub f : List Value
+  pub asks : Asks asked files types design f
+  pub other : IsTrue (not (is_catalogue design))
 
-abbrev pub IsQueryRefusal : List File → List ℕ → List ℕ → QueryFault → Type 0
-IsQueryRefusal files name asked query.NoDesign = HasNoDesign files name
-IsQueryRefusal files name asked query.NotYet = HasNoQuery files name asked
+-- ---- answers
 
--- The bytes that were written are first bytes of a report.
-abbrev pub WroteFirst : List File → List ℕ → List ℕ → Option (List ℕ) → Option (List ℕ) → Type 0
-WroteFirst files name asked before now = (text : List ℕ) × IsReport files name asked text × (count : ℕ) × (now ≡ followed before (take count text))
+-- Library and query are accepted, the design is a catalogue, and the text is the report of its minima.
+pub record IsReport (asked : Asked) (files : List File) (text : List ℕ) : Type 0 where
+  pub types : Types
+  pub design : Design
+  pub f : List Value
+  pub asks : Asks asked files types design f
+  pub catalogue : IsTrue (is_catalogue design)
+  pub rows : List (List Value)
+  pub minima : AreMinima types design f rows
+  pub text_is : text ≡ report types (required_ports design) rows
 
--- What a status says of the files, the design's name and the query, and of the bytes that were written before and now.
-abbrev pub IsOutcome : List File → List ℕ → List ℕ → Option (List ℕ) → Option (List ℕ) → Status → Type 0
-IsOutcome files name asked before now Done = (text : List ℕ) × IsReport files name asked text × (now ≡ followed before text)
-IsOutcome files name asked before now (LibraryRefused fault) = IsLibraryRefusal files fault × (now ≡ before)
-IsOutcome files name asked before now (QueryRefused fault) = IsQueryRefusal files name asked fault × (now ≡ before)
-IsOutcome files name asked before now FolderFault = now ≡ before
-IsOutcome files name asked before now SinkFault = WroteFirst files name asked before now
-IsOutcome files name asked before now Memory = (now ≡ before) ⊎ WroteFirst files name asked before now
-IsOutcome files name asked before now Usage = ⊥
+-- Why a query is refused.
+abbrev pub IsQueryRefusal : Asked → List File → QueryFault → Type 0
+IsQueryRefusal asked files query.NoDesign = HasNoDesign files asked.name
+IsQueryRefusal asked files query.NotYet = AsksOther asked files
+IsQueryRefusal asked files fault = HasBadQuery asked files fault
 
--- What solving says of the files of the folder.
-abbrev pub IsFolderAnswer : List File → List ℕ → List ℕ → Result (List ℕ) Status → Type 0
-IsFolderAnswer files name asked (Ok text) = IsReport files name asked text
-IsFolderAnswer files name asked (Err (LibraryRefused fault)) = IsLibraryRefusal files fault
-IsFolderAnswer files name asked (Err (QueryRefused fault)) = IsQueryRefusal files name asked fault
-IsFolderAnswer files name asked (Err FolderFault) = Unit {0}
-IsFolderAnswer files name asked (Err Memory) = Unit {0}
-IsFolderAnswer files name asked (Err status) = ⊥
+-- Why a library or a query is refused.
+abbrev pub IsRefusal : Asked → List File → Status → Type 0
+IsRefusal asked files (LibraryRefused reason) = IsRefused files reason
+IsRefusal asked files (QueryRefused fault) = IsQueryRefusal asked files fault
+IsRefusal asked files status = ⊥
+
+-- The report, or why there is none. Where the folder failed or memory was wanting, nothing is said.
+abbrev pub IsAnswer : Asked → List File → Result (List ℕ) Status → Type 0
+IsAnswer asked files (Ok text) = IsReport asked files text
+IsAnswer asked files (Err FolderFault) = Unit {0}
+IsAnswer asked files (Err Memory) = Unit {0}
+IsAnswer asked files (Err status) = IsRefusal asked files status
+
+-- ---- statuses
+
+-- The bytes that were written are first bytes of the report.
+abbrev pub WroteFirst : Asked → List File → Option (List ℕ) → Option (List ℕ) → Type 0
+WroteFirst asked files before now = (text : List ℕ) × IsReport asked files text × (count : ℕ) × (now ≡ followed before (take count text))
+
+-- What a status says of the question and the files, and of the bytes that were written before and now.
+abbrev pub IsOutcome : Asked → List File → Option (List ℕ) → Option (List ℕ) → Status → Type 0
+IsOutcome asked files before now Done = (text : List ℕ) × IsReport asked files text × (now ≡ followed before text)
+IsOutcome asked files before now FolderFault = now ≡ before
+IsOutcome asked files before now SinkFault = WroteFirst asked files before now
+IsOutcome asked files before now Memory = (now ≡ before) ⊎ WroteFirst asked files before now
+IsOutcome asked files before now status = IsRefusal asked files status × (now ≡ before)
 
 -- A status that comes before anything is written.
 abbrev pub EndsEarly : Status → Type 0
@@ -104,7 +121,7 @@ Writing text before now status = ⊥
 -- A fact that holds where nothing was written.
 abbrev pub BeforeWriting : Status → Type 0 → Type 0
 BeforeWriting Usage P = P
-BeforeWriting (LibraryRefused fault) P = P
+BeforeWriting (LibraryRefused reason) P = P
 BeforeWriting (QueryRefused fault) P = P
 BeforeWriting FolderFault P = P
 BeforeWriting status P = Unit {0}

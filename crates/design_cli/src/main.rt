@@ -2,9 +2,8 @@
 #![tactic(auto)]
 
 mod answer;
-mod byte_order;
-mod library;
-mod listing;
+mod laws;
+mod lines;
 mod report;
 mod run;
 mod status;

@@ -1,23 +1,24 @@
 ghost use Rattle.std.specs.Prelude.{◌≡◌, ◌≢◌, ◌↔◌, ◌⊎◌, ◌≤◌, ℕ, Err, IfErr, IsTrue, List, None, length, map};
 ghost use Rattle.std.specs.Option.{ForSome};
-ghost use Rattle.value_type.specs.declared.value.Value.{Value};
+ghost use Rattle.design_cli.specs.Outcome.{Asks, BeforeWriting, EndsEarly, ForAsked, IsAnswer, IsOutcome, IsRefusal, NoFault, Writing};
+ghost use Rattle.design_cli.specs.Report.{report};
+ghost use Rattle.design_cli.specs.Words.{asked_by};
+ghost use Rattle.design_cli.specs.declared.status.Status.{Status as Ended};
+ghost use Rattle.design_model.specs.Feasible.{AreMinima};
+ghost use Rattle.design_model.specs.Parts.{is_catalogue, required_ports};
+ghost use Rattle.design_model.specs.declared.design.Design.{Design};
 ghost use Rattle.design_world.specs.Bytes.{followed};
 ghost use Rattle.design_world.specs.Fault.{NeverFall, Rose};
 ghost use Rattle.design_world.specs.Files.{SameFiles};
-ghost use Rattle.design_model.specs.declared.design.Design.{Design};
-ghost use Rattle.design_model.specs.Feasible.{AreMinima};
-ghost use Rattle.design_model.specs.Parts.{required_ports};
-ghost use Rattle.design_cli.specs.Library.{IsFirstRefused};
-ghost use Rattle.design_cli.specs.Outcome.{Asks, BeforeWriting, ForAsked, HasNoDesign, HasNoQuery, EndsEarly, NoFault, IsOutcome, IsFolderAnswer, Writing};
-ghost use Rattle.design_cli.specs.Posets.{no_posets};
-ghost use Rattle.design_cli.specs.Report.{report};
-ghost use Rattle.design_cli.specs.Words.{asked_by};
+ghost use Rattle.value_type.specs.declared.poset.Types.{Types};
+ghost use Rattle.value_type.specs.declared.value.Value.{Value};
 
 use crate::answer::answer;
-use crate::listing::read_folder;
-use crate::status::{LibraryFault, QueryFault, Status};
+use crate::laws::questions_have_one_answer;
+use crate::status::Status;
 use crate::words::question_of;
 use design_world::{Folder, Sink, Source, WorldFault, put_all};
+use library_load::{LoadFault, load};
 use order_core::Text;
 use std::alloc::Global;
 
@@ -35,14 +36,14 @@ fn solve<F: Folder>(
     ensures reliable { IsTrue (F.is_reliable folder.old) →
         ((place : List ℕ) → F.faults folder.new place ≡ F.faults folder.old place) × (result ≢ Err Status.FolderFault) }
     ensures early { IfErr result EndsEarly }
-    ensures solves { ForSome (F.files folder.old place.now) (λ files. IsFolderAnswer files name.now query.now result) }
+    ensures solves { ForSome (F.files folder.old place.now) (λ files. IsAnswer (record { place = place.now; name = name.now; query = query.now }) files result) }
 {
-    let files = match read_folder(alloc, folder, place) {
-        Ok(files) => files,
-        Err(WorldFault::Failed) => return Err(Status::FolderFault),
-        Err(WorldFault::Memory) => return Err(Status::Memory),
-    };
-    answer(alloc, &files, name, query)
+    match load(alloc, folder, place) {
+        Ok(library) => answer(alloc, &library, name, query),
+        Err(LoadFault::Folder) => Err(Status::FolderFault),
+        Err(LoadFault::Library(fault)) => Err(Status::LibraryRefused(fault)),
+        Err(LoadFault::Memory) => Err(Status::Memory),
+    }
 }
 
 /// Writes a report.
@@ -70,33 +71,27 @@ pub fn run<F: Folder, S: Source, K: Sink>(
     input: &mut S,
     out: &mut K,
 ) -> Status
-    // Where the library is accepted, has the design and the query is one of it, and no device failed, exactly the
-    // minimal rows are written, unless memory was wanting.
+    // Where library and query are accepted, the design is a catalogue and no device failed, exactly the minimal rows are
+    // written, unless memory was wanting.
     ensures headline { ForAsked (map (λ word. word.now) words.now) (F.files folder.old) (λ asked files.
-        (catalogue : Design) (f : List Value) → Asks asked files catalogue f
+        (types : Types) (design : Design) (f : List Value) → Asks asked files types design f → IsTrue (is_catalogue design)
         → (Rose (F.faults folder.old asked.place) (F.faults folder.new asked.place) → ⊥) → (Rose (K.faults out.old) (K.faults out.new) → ⊥) → result ≢ Status.Memory
-        → (result ≡ Status.Done) × (rows : List (List Value)) × AreMinima no_posets catalogue f rows × (K.written out.new ≡ followed (K.written out.old) (report (required_ports catalogue) rows))) }
+        → (result ≡ Status.Done) × (rows : List (List Value)) × AreMinima types design f rows × (K.written out.new ≡ followed (K.written out.old) (report types (required_ports design) rows))) }
 
-    // With reliable devices an accepted library and query are answered, unless memory was wanting.
+    // With reliable devices an accepted library and query are answered, where the design is a catalogue, unless memory was
+    // wanting.
     ensures complete { IsTrue (F.is_reliable folder.old) → IsTrue (K.is_reliable out.old) → ForAsked (map (λ word. word.now) words.now) (F.files folder.old) (λ asked files.
-        (catalogue : Design) (f : List Value) → Asks asked files catalogue f
+        (types : Types) (design : Design) (f : List Value) → Asks asked files types design f → IsTrue (is_catalogue design)
         → (result ≡ Status.Done) ⊎ (result ≡ Status.Memory)) }
 
-    // What each status says of the files, the name and the query, and of the bytes that were written.
+    // What each status says of the question and the files, and of the bytes that were written.
     ensures says { ForAsked (map (λ word. word.now) words.now) (F.files folder.old) (λ asked files.
-        IsOutcome files asked.name asked.query (K.written out.old) (K.written out.new) result) }
+        IsOutcome asked files (K.written out.old) (K.written out.new) result) }
 
-    // When each refusal comes.
+    // Each refusal comes exactly where it has its cause.
     ensures usage { (result ≡ Status.Usage) ↔ (asked_by (map (λ word. word.now) words.now) ≡ None) }
-    ensures library_refused { ForAsked (map (λ word. word.now) words.now) (F.files folder.old) (λ asked files.
-        (file : List ℕ) → IsFirstRefused files file → result ≢ Status.FolderFault → result ≢ Status.Memory
-        → result ≡ Status.LibraryRefused (LibraryFault.NotYet file)) }
-    ensures no_design { ForAsked (map (λ word. word.now) words.now) (F.files folder.old) (λ asked files.
-        HasNoDesign files asked.name → result ≢ Status.FolderFault → result ≢ Status.Memory
-        → result ≡ Status.QueryRefused QueryFault.NoDesign) }
-    ensures no_query { ForAsked (map (λ word. word.now) words.now) (F.files folder.old) (λ asked files.
-        HasNoQuery files asked.name asked.query → result ≢ Status.FolderFault → result ≢ Status.Memory
-        → result ≡ Status.QueryRefused QueryFault.NotYet) }
+    ensures refused { ForAsked (map (λ word. word.now) words.now) (F.files folder.old) (λ asked files.
+        (refusal : Ended) → IsRefusal asked files refusal → result ≢ Status.FolderFault → result ≢ Status.Memory → result ≡ refusal) }
 
     // When each fault comes.
     ensures folder_fault { result ≡ Status.FolderFault → ForSome (asked_by (map (λ word. word.now) words.now)) (λ asked.
@@ -111,6 +106,7 @@ pub fn run<F: Folder, S: Source, K: Sink>(
     ensures unwritten { BeforeWriting result (out.new ≡ out.old) }
     ensures unread { input.new ≡ input.old }
 {
+    questions_have_one_answer();
     let Some(question) = question_of(words) else {
         return Status::Usage;
     };

@@ -1,24 +1,11 @@
-ghost use Rattle.std.specs.Prelude.{◌≡◌, IfOk, string_bytes};
+ghost use Rattle.std.specs.Prelude.{◌≡◌, IfOk};
 ghost use Rattle.design_cli.specs.Lines.{code_of, line_of};
 
+use crate::lines::line;
+use library_load::LibraryFault;
 use order_core::{NoMemory, Text};
-use std::alloc::{AllocError, Global};
-
-/// What is wrong with a library.
-#[derive(Debug, Drop)]
-pub enum LibraryFault {
-    /// The file is none of those that are read today.
-    NotYet { file: Text },
-}
-
-/// What is wrong with a query.
-#[derive(Clone, Copy, Debug, PartialEq, Eq)]
-pub enum QueryFault {
-    /// The library has no design of that name.
-    NoDesign,
-    /// The text is none of those that are read today.
-    NotYet,
-}
+use query_read::QueryFault;
+use std::alloc::Global;
 
 /// How a run of the program ended.
 #[derive(Debug, Drop)]
@@ -65,26 +52,3 @@ impl Status {
         }
     }
 }
-
-#[tactic(auto, unfolding(crate::specs::Lines::usage_line))]
-fn line(alloc: Global, status: &Status) -> Result<String, AllocError>
-    ensures { IfOk result (λ text. string_bytes text ≡ line_of status.now) }
-{
-    match status {
-        Status::Done => Ok(String::new(alloc)),
-        Status::Usage => String::from_str(alloc, USAGE),
-        Status::LibraryRefused(LibraryFault::NotYet { file }) => {
-            let mut text = String::from_str(alloc, "not yet: ")?;
-            text.push_str(file.as_str())?;
-            Ok(text)
-        }
-        Status::QueryRefused(QueryFault::NoDesign) => String::from_str(alloc, "query: no design"),
-        Status::QueryRefused(QueryFault::NotYet) => String::from_str(alloc, "query: not yet"),
-        Status::FolderFault => String::from_str(alloc, "folder fault"),
-        Status::SinkFault => String::from_str(alloc, "sink fault"),
-        Status::Memory => String::from_str(alloc, "out of memory"),
-    }
-}
-
-const USAGE: &str =
-    "usage: mcdpl solve|explain|certify FOLDER NAME QUERY [--rounds N], check FOLDER NAME QUERY, show FOLDER NAME, generate START SIZE";

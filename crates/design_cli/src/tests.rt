@@ -6,6 +6,7 @@ use std::alloc::{AllocError, Global};
 use std::process::Abort;
 use std::test::Fail;
 
+mod libraries;
 mod world;
 
 const MOTORS: &str =
@@ -145,9 +146,9 @@ fn units(rt: HostRuntime) -> Result<(), Fail> {
     let none = run_on_design(alloc, UNITS, "1.000001 kg")?;
     expect(&rt, &none, 0, "", "infeasible\n");
     let time = run_on_design(alloc, UNITS, "1 s")?;
-    expect(&rt, &time, 5, "query: not yet", "");
+    expect(&rt, &time, 5, "query: wrong value 0", "");
     let plain = run_on_design(alloc, UNITS, "1")?;
-    expect(&rt, &plain, 5, "query: not yet", "");
+    expect(&rt, &plain, 5, "query: wrong value 0", "");
     Ok(())
 }
 
@@ -157,30 +158,24 @@ fn small_refusals(rt: HostRuntime) -> Result<(), Fail> {
     let empty = folder(alloc, vec![in alloc]?, &[])?;
     let no_design = run_on(alloc, &["solve", "lib", "motors", "90"], empty, &[])?;
     expect(&rt, &no_design, 5, "query: no design", "");
-    let two_cells = run_on_motors(alloc, &["solve", "lib", "motors", "90, 1"])?;
-    expect(&rt, &two_cells, 5, "query: not yet", "");
+    let lines = [
+        ("90 g", "query: wrong value 0"),
+        ("90, 1", "query: 2 values for 1 ports"),
+        ("90,", "query: syntax at 3"),
+    ];
+    for (query, line) in lines {
+        let refused = run_on_motors(alloc, &["solve", "lib", "motors", query])?;
+        expect(&rt, &refused, 5, line, "");
+    }
     Ok(())
 }
 
 #[test]
-fn refused_words_and_library(rt: HostRuntime) -> Result<(), Fail> {
-    let alloc = rt.alloc();
+fn refused_words(rt: HostRuntime) -> Result<(), Fail> {
     let usage =
         "usage: mcdpl solve|explain|certify FOLDER NAME QUERY [--rounds N], check FOLDER NAME QUERY, show FOLDER NAME, generate START SIZE";
-    let too_few = run_on_motors(alloc, &["solve", "lib", "motors"])?;
+    let too_few = run_on_motors(rt.alloc(), &["solve", "lib", "motors"])?;
     expect(&rt, &too_few, 2, usage, "");
-    let files = vec![in alloc;
-        file(alloc, "motors.mcdp", MOTORS)?,
-        file(alloc, "list.csv", "")?,
-        file(alloc, "Zinc.mcdp", "catalogue { }")?,
-    ]?;
-    let refused = run_on(
-        alloc,
-        &["solve", "lib", "motors", "90"],
-        folder(alloc, files, &[])?,
-        &[],
-    )?;
-    expect(&rt, &refused, 4, "not yet: Zinc.mcdp", "");
     Ok(())
 }
 

@@ -1,4 +1,3 @@
-pub mod CutLemmas
 pub mod Cutting
 pub mod Longest
 pub mod Over

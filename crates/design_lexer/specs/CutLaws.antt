@@ -99,6 +99,12 @@ never_both text xs at h k =
     let lengths : 0 ≡ length (drop at text) = ap length same in
     absurd (omega (arith, lengths, length-drop at text, k.before_end))
 
+pub first_bad_same : (text : List ℕ) (a b : ℕ) → IsFirstBad text a → IsFirstBad text b → a ≡ b
+first_bad_same text a b h k =
+    let same = (cuts_same text h.pieces k.pieces (drop a text) (drop b text) h.cut k.cut (no_next_bad _ h.bad) (no_next_bad _ k.bad)).rest in
+    let lengths : length (drop a text) ≡ length (drop b text) = ap length same in
+    omega (arith, lengths, length-drop a text, length-drop b text, h.before_end, k.before_end)
+
 -- ---- each token
 
 token_stands : (text : List ℕ) (at : ℕ) (k : PieceKind) (n : ℕ) (ts : List Token) → at + n ≤ length text → IsPiece k (take n (drop at text)) → is_long k n ≡ false

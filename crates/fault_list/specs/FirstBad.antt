@@ -18,3 +18,9 @@ abbrev pub AnswersFirst : {A B F : Type 0} → (A → Type 0) → (A → F → T
 AnswersFirst Good Bad items Meant (Ok x) = Each Good items × Meant x
 AnswersFirst Good Bad items Meant (Err (stop.At fault)) = IsFirstBad Good Bad items fault
 AnswersFirst Good Bad items Meant (Err stop.Memory) = Unit {0}
+
+-- Something with the first property, or a fault with the second. Want of memory says nothing.
+abbrev pub AnswersBy : {A F : Type 0} → (A → Type 0) → (F → Type 0) → Result A (Stop F) → Type 0
+AnswersBy Good Bad (Ok x) = Good x
+AnswersBy Good Bad (Err (stop.At fault)) = Bad fault
+AnswersBy Good Bad (Err stop.Memory) = Unit {0}

@@ -4,4 +4,5 @@ pub mod AnswersLaws
 pub mod Faults
 pub mod FaultLaws
 pub mod FirstBad
+pub mod FirstBadLaws
 pub mod RestLaws

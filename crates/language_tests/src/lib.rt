@@ -1,5 +1,5 @@
-//! Tests of the lexer, of the parser and of the plain form by their public calls: what no clause says, and that
-//! memory isn't refused where there is plenty.
+//! Tests of the lexer and of the parser by their public calls: what no clause says, and that memory isn't refused where
+//! there is plenty.
 #![tactic(auto)]
 
 #[cfg(test)]

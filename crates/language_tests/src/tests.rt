@@ -1,3 +1,2 @@
 mod lexer;
 mod parser;
-mod plain;

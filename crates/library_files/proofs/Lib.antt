@@ -4,4 +4,5 @@ pub mod TakenLemmas
 pub mod SortedLemmas
 pub mod ParsedLemmas
 pub mod OneWayLemmas
+pub mod FaultLemmas
 pub mod BranchLemmas

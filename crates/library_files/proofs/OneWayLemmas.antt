@@ -1,5 +1,5 @@
 -- What is taken of a folder and what files write are determined.
-use Rattle.std.proofs.Common.{◌≡◌, ◌∙◌, ◌+◌, ◌≤◌, refl, sym, ap, subst, arith, ℕ, Bool, true, false, cond, inl, inr, List, [], ◌∷◌, filter, Some}
+use Rattle.std.proofs.Common.{◌≡◌, ◌∙◌, ◌+◌, ◌≤◌, refl, sym, ap, subst, arith, ℕ, Bool, true, false, cond, not, inl, inr, List, [], ◌∷◌, filter, Some}
 use Rattle.std.proofs.lemmas.List.Sorted.{sum_by-IsPermutation}
 use Rattle.std.proofs.lemmas.List.Sums.{sum_by-cons}
 use Rattle.std.proofs.lemmas.Map.Text.{is_eq-slice_cmp}
@@ -8,6 +8,7 @@ use Rattle.std.proofs.lemmas.Slice.Eq.{bytes_eq-Decides}
 use Rattle.std.specs.Cmp.Lexicographic.{slice_cmp}
 use Rattle.std.specs.List.{sum_by}
 use Rattle.std.specs.Ordering.{is_eq, is_lt, nat_cmp, ordering_reverse}
+use Rattle.std.specs.Prelude.{None, Option}
 use Rattle.std.specs.Str.{bytes_eq}
 use Rattle.std.specs.declared.cmp.Ordering.TheVariants.{Less, Equal, Greater}
 use Rattle.std.specs.declared.cmp.Ordering.{Ordering}
@@ -22,10 +23,13 @@ use Rattle.design_world.specs.declared.memory.folder.MemoryFile.{MemoryFile}
 use Rattle.fault_list.specs.declared.fault.Fault.{Fault}
 use Rattle.fault_list.specs.declared.fault.FileFault.{FileFault}
 use Rattle.library_files.proofs.SortedLemmas.{Rises, order, sorted_rises}
-use Rattle.library_files.specs.Names.{is_recognised}
-use Rattle.library_files.specs.Parsed.{AreParsed, HasCutFault, HasFault, HasTextFault, IsCut, IsParsed, IsTabled, IsWritten, Writes, WritesTree}
+use Rattle.library_files.specs.Names.{ending_of, is_recognised}
+use Rattle.library_files.specs.Parsed.{AreParsed, HasCutFault, HasFault, HasTextFault, IsCut, IsParsed, IsTabled, IsWritten, Writes, WritesTree, is_table, is_table_ending}
 use Rattle.library_files.specs.Taken.{AreTaken, is_before}
+use Rattle.library_files.specs.declared.name.Ending.{Ending}
+use Rattle.library_files.specs.declared.name.Ending.TheVariants as ending
 use Rattle.library_files.specs.declared.parse.Parsed.{Parsed}
+use Rattle.name_table.specs.PartnerLaws.{partners_same}
 use Rattle.name_table.specs.declared.source.SourceFile.{SourceFile}
 use Rattle.name_table.specs.declared.source.Table.{Table}
 use Rattle.order_core.specs.Members.{IsMember}
@@ -100,17 +104,6 @@ taken_same files a b h k =
 
 -- ---- what files write
 
-one_partner : {A B : Type 0} (R : A → B → Type 0) → ((x : A) (y z : B) → R x y → R x z → y ≡ z) → (xs : List A) (ys zs : List B) → Pointwise R xs ys → Pointwise R xs zs → ys ≡ zs
-one_partner R one [] [] [] h k = refl
-one_partner R one [] [] (z ∷ zs) h k = absurd k
-one_partner R one [] (y ∷ ys) zs h k = absurd h
-one_partner R one (x ∷ xs) [] zs h k = absurd h
-one_partner R one (x ∷ xs) (y ∷ ys) [] h k = absurd k
-one_partner R one (x ∷ xs) (y ∷ ys) (z ∷ zs) h k =
-    let same : y ≡ z = one x y z h.0 k.0 in
-    let rest : ys ≡ zs = one_partner R one xs ys zs h.1 k.1 in
-    λ i. same i ∷ rest i
-
 tabled_same : (file : MemoryFile) (a b : Table) → IsTabled file a → IsTabled file b → a ≡ b
 tabled_same file a b h k = λ i. record { name = (h.name ∙ sym k.name) i; stem = (h.stem ∙ sym k.stem) i; bytes = (h.bytes ∙ sym k.bytes) i }
 
@@ -133,11 +126,11 @@ module _ (one_tree : (kind : FileKind) (ts : List Lexeme) (a b : tree.File) → 
 
   pub all_parsed_same : (files : List MemoryFile) (a b : Parsed) → AreParsed files a → AreParsed files b → a ≡ b
   all_parsed_same files a b h k =
-      let sources = one_partner IsParsed parsed_same _ a.files b.files h.sources k.sources in
-      let tables = one_partner IsTabled tabled_same _ a.tables b.tables h.tables k.tables in
+      let sources = partners_same IsParsed parsed_same _ a.files b.files h.sources k.sources in
+      let tables = partners_same IsTabled tabled_same _ a.tables b.tables h.tables k.tables in
       λ i. record { files = sources i; tables = tables i }
 
-never_cut : (bytes : List ℕ) (tokens : List Token) (fault : Fault) → HasCutFault bytes fault → IsCut bytes tokens → ⊥
+pub never_cut : (bytes : List ℕ) (tokens : List Token) (fault : Fault) → HasCutFault bytes fault → IsCut bytes tokens → ⊥
 never_cut bytes tokens fault (inl none) c = none.never c.text
 never_cut bytes tokens fault (inr bad) c = cut.never_both bytes tokens fault.at c.cut bad.first
 
@@ -153,3 +146,33 @@ never_both file fault h (inr w) =
     let ending = sym w.1.ending ∙ h.ending in
     let kind : w.1.kind ≡ h.kind = cc in
     never_written h.kind file.bytes _ w.0 h.has_fault (subst (λ (kind : FileKind). Writes kind file.bytes w.0) kind w.1.writes)
+
+-- ---- each file
+
+no_table : (file : MemoryFile) (made : SourceFile) → IsParsed file made → IsWritten file
+no_table file made h = inr (made.tree, h.writes)
+
+table_written : (file : MemoryFile) → is_table file ≡ true → IsWritten file
+unfolding ending_of is_table
+table_written file is = go (ending_of file.name) refl is
+  where
+    go : (e : Option Ending) → ending_of file.name ≡ e → is_table_ending e ≡ true → IsWritten file
+    go (Some ending.Table) h t = inl h
+    go (Some (ending.Tree kind)) h t = absurd (cc)
+    go None h t = absurd (cc)
+
+-- Where the sources are those that the files write, each file is a table or writes a tree.
+sources_written : (files : List MemoryFile) (made : List SourceFile) → Pointwise IsParsed (filter (λ file. not (is_table file)) files) made → Each IsWritten files
+sources_written [] made h = tt
+sources_written (file ∷ files) made h = go (is_table file) refl made h (λ rest. sources_written files rest)
+  where
+    others : List MemoryFile
+    others = filter (λ file. not (is_table file)) files
+
+    go : (b : Bool) → is_table file ≡ b → (made : List SourceFile) → Pointwise IsParsed (cond (not b) (file ∷ others) others) made → ((rest : List SourceFile) → Pointwise IsParsed others rest → Each IsWritten files) → Each IsWritten (file ∷ files)
+    go true is made h later = (table_written file is, later made h)
+    go false is [] h later = absurd h
+    go false is (source ∷ made) h later = (no_table file source h.0, later made h.1)
+
+pub all_written : (files : List MemoryFile) (made : Parsed) → AreParsed files made → Each IsWritten files
+all_written files made h = sources_written files made.files h.sources

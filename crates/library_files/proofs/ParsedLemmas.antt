@@ -6,13 +6,13 @@ use Rattle.design_lexer.specs.declared.tree.File.{File}
 use Rattle.design_parser.specs.declared.parse.FileKind.{FileKind}
 use Rattle.design_world.specs.declared.memory.folder.MemoryFile.{MemoryFile}
 use Rattle.fault_list.specs.Answers.{IsInFile}
-use Rattle.fault_list.specs.FirstBad.{AnswersFirst}
+use Rattle.fault_list.specs.FirstBad.{AnswersBy, AnswersFirst}
 use Rattle.fault_list.specs.declared.fault.Fault.{Fault}
 use Rattle.fault_list.specs.declared.fault.FileFault.{FileFault}
 use Rattle.fault_list.specs.declared.fault.Stop.{Stop}
 use Rattle.fault_list.specs.declared.fault.Stop.TheVariants as stop
 use Rattle.library_files.specs.Names.{ending_of, stem_of}
-use Rattle.library_files.specs.Parsed.{AnswersBy, AreParsed, HasFault, HasTextFault, IsMade, IsParsed, IsTabled, IsWritten, Writes, is_table, is_table_ending}
+use Rattle.library_files.specs.Parsed.{AreParsed, HasFault, HasTextFault, IsMade, IsParsed, IsTabled, IsWritten, Writes, is_table, is_table_ending}
 use Rattle.library_files.specs.declared.name.Ending.{Ending}
 use Rattle.library_files.specs.declared.name.Ending.TheVariants as ending
 use Rattle.library_files.specs.declared.parse.Parsed.{Parsed}
@@ -20,6 +20,7 @@ use Rattle.library_files.specs.declared.source.Made.{Made}
 use Rattle.library_files.specs.declared.source.Made.TheVariants as made
 use Rattle.name_table.specs.declared.source.SourceFile.{SourceFile}
 use Rattle.name_table.specs.declared.source.Table.{Table}
+use Rattle.name_table.specs.PartnerLaws.{pointwise_push}
 use Rattle.order_core.specs.MemberLaws.{append_nil}
 use Rattle.order_core.specs.Pointwise.{Each, Pointwise}
 use Rattle.order_core.specs.PointwiseLaws.{each_push, pointwise_length}
@@ -59,12 +60,6 @@ made_is_written file (made.Source source) is = inr (source.tree, is.1.writes)
 made_is_written file (made.Table table) is = inl (table_ending (ending_of file.name) is.0)
 
 -- ---- files so far
-
-pointwise_push : {A B : Type 0} (R : A → B → Type 0) (xs : List A) (ys : List B) (x : A) (y : B) → Pointwise R xs ys → R x y → Pointwise R (xs ++ x ∷ []) (ys ++ y ∷ [])
-pointwise_push R [] [] x y h r = (r, tt)
-pointwise_push R [] (z ∷ ys) x y h r = absurd h
-pointwise_push R (z ∷ xs) [] x y h r = absurd h
-pointwise_push R (z ∷ xs) (w ∷ ys) x y h r = (h.0, pointwise_push R xs ys x y h.1 r)
 
 kept : {A : Type 0} (p : A → Bool) (xs : List A) (x : A) → p x ≡ true → filter p (xs ++ x ∷ []) ≡ filter p xs ++ x ∷ []
 kept p xs x e = filter-append p xs (x ∷ []) ∙ ap (λ b. filter p xs ++ cond b (x ∷ []) []) e

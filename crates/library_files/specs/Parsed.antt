@@ -1,5 +1,5 @@
 -- What the files of a library write.
-use Rattle.std.specs.Prelude.{◌≡◌, ◌⊎◌, ℕ, Bool, true, false, not, List, filter, length, Option, Some, None, Result, Ok, Err}
+use Rattle.std.specs.Prelude.{◌≡◌, ◌⊎◌, ℕ, Bool, true, false, not, List, filter, length, Option, Some, None}
 use Rattle.std.specs.Str.{IsUtf8}
 use Rattle.design_lexer.specs.Cut.{AreTokens, IsFirstBad}
 use Rattle.design_lexer.specs.Syntax.Classes.{lexemes_of}
@@ -12,8 +12,6 @@ use Rattle.design_world.specs.declared.memory.folder.MemoryFile.{MemoryFile}
 use Rattle.fault_list.specs.declared.fault.Fault.{Fault}
 use Rattle.fault_list.specs.declared.fault.FaultKind.TheVariants as wrong
 use Rattle.fault_list.specs.declared.fault.FileFault.{FileFault}
-use Rattle.fault_list.specs.declared.fault.Stop.{Stop}
-use Rattle.fault_list.specs.declared.fault.Stop.TheVariants as stop
 use Rattle.library_files.specs.Names.{ending_of, stem_of}
 use Rattle.library_files.specs.declared.name.Ending.{Ending}
 use Rattle.library_files.specs.declared.name.Ending.TheVariants as ending
@@ -23,12 +21,6 @@ use Rattle.library_files.specs.declared.source.Made.TheVariants as made
 use Rattle.name_table.specs.declared.source.SourceFile.{SourceFile}
 use Rattle.name_table.specs.declared.source.Table.{Table}
 use Rattle.order_core.specs.Pointwise.{Pointwise}
-
--- Something with the first property, or a fault with the second. Want of memory says nothing.
-abbrev pub AnswersBy : {A F : Type 0} → (A → Type 0) → (F → Type 0) → Result A (Stop F) → Type 0
-AnswersBy Good Bad (Ok x) = Good x
-AnswersBy Good Bad (Err (stop.At fault)) = Bad fault
-AnswersBy Good Bad (Err stop.Memory) = Unit {0}
 
 -- ---- a text
 

@@ -13,6 +13,7 @@ pub use fault_list::{FaultKind, FileFault, StageFault};
 pub use folder::gather;
 pub use laws::{
     files_are_taken_in_one_way, parsed_choices_have_branches, texts_are_parsed_in_one_way,
+    texts_have_one_fault,
 };
 pub use name::{Ending, is_recognised};
 pub use name_table::{SourceFile, Table};

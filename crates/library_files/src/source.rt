@@ -1,5 +1,6 @@
 ghost use Rattle.std.specs.Prelude.{◌≡◌, IfOk, IsTrue, Some};
 ghost use Rattle.design_lexer.specs.Cut.{AreTokens};
+ghost use Rattle.fault_list.specs.FirstBad.{AnswersBy};
 ghost use Rattle.library_files.specs.Names.{ending_of, is_recognised, stem_of};
 ghost use Rattle.library_files.specs.Parsed as spec;
 
@@ -21,7 +22,7 @@ pub enum Made {
 
 /// The tokens of a text.
 fn tokens_of(alloc: Global, bytes: &[u8]) -> Result<List<Token>, Stop<Fault>>
-    ensures { spec.AnswersBy (spec.IsCut bytes.now) (spec.HasCutFault bytes.now) result }
+    ensures { AnswersBy (spec.IsCut bytes.now) (spec.HasCutFault bytes.now) result }
 {
     match lex(alloc, bytes) {
         Ok(tokens) => Ok(tokens),
@@ -45,7 +46,7 @@ fn parsed(
     tokens: &List<Token>,
 ) -> Result<File, Stop<Fault>>
     requires { AreTokens bytes.now tokens.now }
-    ensures { spec.AnswersBy (spec.AreWritten kind bytes.now tokens.now) (spec.HasSyntaxFault kind bytes.now tokens.now) result }
+    ensures { AnswersBy (spec.AreWritten kind bytes.now tokens.now) (spec.HasSyntaxFault kind bytes.now tokens.now) result }
 {
     match parse_file(alloc, kind, bytes, tokens) {
         Ok(tree) => Ok(tree),
@@ -59,7 +60,7 @@ fn parsed(
 
 /// The tree that a text writes, as a file of the kind.
 fn tree_of(alloc: Global, kind: FileKind, bytes: &[u8]) -> Result<File, Stop<Fault>>
-    ensures { spec.AnswersBy (spec.Writes kind bytes.now) (spec.HasFault kind bytes.now) result }
+    ensures { AnswersBy (spec.Writes kind bytes.now) (spec.HasFault kind bytes.now) result }
 {
     let tokens = match tokens_of(alloc, bytes) {
         Ok(tokens) => tokens,
@@ -92,7 +93,7 @@ fn made_with(
 ) -> Result<Made, StageFault>
     requires stem { stem ≡ stem_of file.name }
     requires ending { ending_of file.name ≡ Some ending }
-    ensures { spec.AnswersBy (spec.IsMade file) (spec.HasTextFault file) result }
+    ensures { AnswersBy (spec.IsMade file) (spec.HasTextFault file) result }
 {
     let MemoryFile { name, bytes } = file;
     match ending {
@@ -107,7 +108,7 @@ fn made_with(
 /// What is made of a file.
 pub fn made_of(alloc: Global, file: MemoryFile) -> Result<Made, StageFault>
     requires { IsTrue (is_recognised file.name) }
-    ensures { spec.AnswersBy (spec.IsMade file) (spec.HasTextFault file) result }
+    ensures { AnswersBy (spec.IsMade file) (spec.HasTextFault file) result }
 {
     match parts(alloc, &file.name) {
         Ok((stem, ending)) => made_with(alloc, file, stem, ending),

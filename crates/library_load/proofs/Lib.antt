@@ -5,6 +5,7 @@ mod LoadedLemmas
 mod MadeLemmas
 mod MeaningLemmas
 mod NamedLemmas
+mod OneWayLemmas
 mod OrderLemmas
 mod PlacedLemmas
 mod RankLemmas

@@ -4,10 +4,11 @@ use Rattle.std.specs.Prelude.{Some, None, Result, Ok, Err}
 use Rattle.design_world.specs.Files.{File}
 use Rattle.design_world.specs.InMemory.{files_of}
 use Rattle.design_world.specs.declared.memory.folder.MemoryFile.{MemoryFile}
+use Rattle.fault_list.specs.FirstBad.{AnswersBy}
 use Rattle.fault_list.specs.declared.fault.FileFault.{FileFault}
 use Rattle.fault_list.specs.declared.fault.Stop.{Stop}
 use Rattle.fault_list.specs.declared.fault.Stop.TheVariants as stop
-use Rattle.library_files.specs.Parsed.{AnswersBy, AreParsed}
+use Rattle.library_files.specs.Parsed.{AreParsed}
 use Rattle.library_files.specs.Taken.{AreTaken, Gathers, limit_fault}
 use Rattle.library_files.specs.declared.fault.LoadFault.{LoadFault}
 use Rattle.library_files.specs.declared.fault.LoadFault.TheVariants as load

@@ -5,11 +5,10 @@ use Rattle.catalogue_read.specs.Catalogues.{HasRows, HasSomeRows}
 use Rattle.design_model.specs.declared.design.CatRow.{CatRow}
 use Rattle.fault_list.specs.Answers.{Answers}
 use Rattle.fault_list.specs.Faults.{first_fault}
-use Rattle.fault_list.specs.FirstBad.{AnswersFirst, IsFirstBad}
+use Rattle.fault_list.specs.FirstBad.{AnswersBy, AnswersFirst, IsFirstBad}
 use Rattle.fault_list.specs.declared.fault.FileFault.{FileFault}
 use Rattle.fault_list.specs.declared.fault.Stop.{Stop}
 use Rattle.fault_list.specs.declared.fault.Stop.TheVariants as stop
-use Rattle.library_files.specs.Parsed.{AnswersBy}
 use Rattle.library_load.specs.Accepted.{IsFirstAfter, IsFirstFault}
 use Rattle.library_load.specs.Designs.{HasFewRows}
 use Rattle.name_table.specs.Library.{ArePosets}

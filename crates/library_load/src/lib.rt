@@ -9,7 +9,8 @@ mod order;
 mod stages;
 
 pub use laws::{
-    designs_are_typed, designs_have_meanings, names_have_one_design, references_are_resolved,
+    designs_are_typed, designs_have_meanings, libraries_are_judged_in_one_way,
+    names_have_one_design, references_are_resolved,
 };
 pub use library::Library;
 pub use library_files::{FaultKind, FileFault, LibraryFault, LoadFault};

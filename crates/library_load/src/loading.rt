@@ -2,7 +2,7 @@ ghost use Rattle.std.specs.Prelude.{◌≡◌, ◌≢◌, ◌<◌, ◌^◌, ℕ,
 ghost use Rattle.std.specs.Option.{ForSome};
 ghost use Rattle.design_world.specs.Fault.{NeverFall, Rose};
 ghost use Rattle.design_world.specs.Files.{SameFiles};
-ghost use Rattle.library_files.specs.Parsed.{AnswersBy};
+ghost use Rattle.fault_list.specs.FirstBad.{AnswersBy};
 ghost use Rattle.library_files.specs.Taken.{AreLibraryNames};
 ghost use Rattle.library_load.specs.Loaded.{IsFaultOf, IsLibrary, Loads};
 ghost use Rattle.library_load.specs.Stages.{IsLoadedOf};

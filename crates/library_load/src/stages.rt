@@ -1,7 +1,7 @@
 ghost use Rattle.std.specs.Prelude.{◌≡◌, ◌<◌, ◌^◌, ◌↔◌, [], IfOk, IsTrue, length};
 ghost use Rattle.catalogue_read.specs.Catalogues.{HasRows};
+ghost use Rattle.fault_list.specs.FirstBad.{AnswersBy};
 ghost use Rattle.library_files.specs.Branches.{HasBranch};
-ghost use Rattle.library_files.specs.Parsed.{AnswersBy};
 ghost use Rattle.library_load.specs.Accepted.{IsFirstAfter, IsFirstFault};
 ghost use Rattle.library_load.specs.Stages.{AreChecked, IsOf};
 ghost use Rattle.module_link.specs.Links.{AreModulesOf};

@@ -14,13 +14,7 @@ use Rattle.name_table.specs.declared.source.SourceFile.{SourceFile}
 use Rattle.name_table.specs.declared.source.Table.{Table}
 use Rattle.order_core.specs.Pointwise.{Pointwise}
 use Rattle.order_core.specs.PointwiseLaws.{pointwise_got}
-
--- One pair of partners more.
-pub pointwise_push : {A B : Type 0} (R : A → B → Type 0) (xs : List A) (ys : List B) (x : A) (y : B) → Pointwise R xs ys → R x y → Pointwise R (xs ++ x ∷ []) (ys ++ y ∷ [])
-pointwise_push R [] [] x y p r = (r, tt)
-pointwise_push R [] (z ∷ ys) x y p r = absurd p
-pointwise_push R (w ∷ xs) [] x y p r = absurd p
-pointwise_push R (w ∷ xs) (z ∷ ys) x y p r = (p.0, pointwise_push R xs ys x y p.1 r)
+use Rattle.name_table.specs.PartnerLaws.{pointwise_push}
 
 -- One item more of a list that is gone through.
 pub pointwise_next : {A B : Type 0} (R : A → B → Type 0) (items : List A) (i : ℕ) (x : A) (ys : List B) (y : B) → i < length items → x ≡ get_or items i x → Pointwise R (take i items) ys → R x y

@@ -1,5 +1,6 @@
 pub mod CircularLemmas
 pub mod KnownLemmas
+pub mod OnePosetLemmas
 pub mod OrderLemmas
 pub mod PairLemmas
 pub mod PosetLemmas

@@ -8,8 +8,8 @@ use Rattle.design_lexer.specs.declared.tree.File.{File}
 use Rattle.design_lexer.specs.declared.tree.File.TheVariants as file
 use Rattle.design_lexer.specs.declared.tree.NameAt.{NameAt}
 use Rattle.design_lexer.specs.declared.tree.PosetTree.{PosetTree}
-use Rattle.name_table.proofs.KnownLemmas.{pointwise_push}
 use Rattle.name_table.specs.Files.{is_poset, poset_files}
+use Rattle.name_table.specs.PartnerLaws.{pointwise_push}
 use Rattle.name_table.specs.Library.{ArePosets, IsPosetIn}
 use Rattle.name_table.specs.Orders.{IsPosetOf}
 use Rattle.name_table.specs.declared.source.SourceFile.{SourceFile}

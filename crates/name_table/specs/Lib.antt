@@ -5,6 +5,7 @@ pub mod Library
 pub mod Listing
 pub mod NameFaults
 pub mod Orders
+pub mod PartnerLaws
 pub mod Ranks
 pub mod References
 pub mod SmallLaws

@@ -15,7 +15,9 @@ mod source;
 mod stems;
 
 pub use fault_list::{Fault, FaultKind, FileFault, StageFault};
-pub use laws::{circular_files_come_back, cycles_lead_both_ways, references_fall};
+pub use laws::{
+    circular_files_come_back, cycles_lead_both_ways, files_have_one_list_of_posets, references_fall,
+};
 pub use names::{Names, build};
 pub use ports::port_of;
 pub use size::are_small;

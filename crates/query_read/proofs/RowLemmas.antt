@@ -74,12 +74,12 @@ each_none {B = B} f (j ∷ js) (y ∷ ys) (suc i) k x k-is x-is e = ap (with_fir
 
 -- ---- texts
 
-trees_same : (text : List ℕ) (a b : List ValueTree) → WritesValues text a → WritesValues text b → a ≡ b
+pub trees_same : (text : List ℕ) (a b : List ValueTree) → WritesValues text a → WritesValues text b → a ≡ b
 trees_same text a b h k =
     let same : k.tokens ≡ h.tokens = tokens_same text k.tokens h.tokens k.cut h.cut in
     queries_same (lexemes_of text h.tokens) a b h.written (subst (λ (ts : List Token). Query (lexemes_of text ts) b) same k.written)
 
-no_values : (text : List ℕ) (why : RowFault) (trees : List ValueTree) → IsTextFault text why → WritesValues text trees → ⊥
+pub no_values : (text : List ℕ) (why : RowFault) (trees : List ValueTree) → IsTextFault text why → WritesValues text trees → ⊥
 no_values text (cause.Syntax at) trees (inl bad) w = never_both text w.tokens at w.cut bad
 no_values text (cause.Syntax at) trees (inr none) w =
     let same : w.tokens ≡ none.tokens = tokens_same text w.tokens none.tokens w.cut none.cut in

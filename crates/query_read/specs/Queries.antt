@@ -8,8 +8,6 @@ use Rattle.design_lexer.specs.declared.tree.ValueTree.{ValueTree}
 use Rattle.design_model.specs.Parts.{provided_ports, required_ports}
 use Rattle.design_model.specs.declared.design.Design.{Design}
 use Rattle.design_parser.specs.Grammar as grammar
-use Rattle.fault_list.specs.declared.fault.Stop.{Stop}
-use Rattle.fault_list.specs.declared.fault.Stop.TheVariants as stop
 use Rattle.query_read.specs.declared.query.Query.{Query}
 use Rattle.query_read.specs.declared.query.QueryError.{QueryError}
 use Rattle.query_read.specs.declared.query.QueryError.TheVariants as error
@@ -88,12 +86,6 @@ pub record WritesBad (types : Types) (rounding : Rounding) (ports : List Port) (
 -- why the text writes no row for the ports: it writes no values, or values with a fault
 abbrev pub IsRowFault : Types → Rounding → List Port → List ℕ → RowFault → Type 0
 IsRowFault types rounding ports text why = IsTextFault text why ⊎ WritesBad types rounding ports text why
-
--- Something with the first property, or a fault with the second. Want of memory says nothing.
-abbrev pub AnswersBy : {A F : Type 0} → (A → Type 0) → (F → Type 0) → Result A (Stop F) → Type 0
-AnswersBy Good Bad (Ok x) = Good x
-AnswersBy Good Bad (Err (stop.At why)) = Bad why
-AnswersBy Good Bad (Err stop.Memory) = Unit {0}
 
 -- ---- queries
 

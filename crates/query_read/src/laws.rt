@@ -30,3 +30,10 @@ pub fn refused_texts_write_no_row()
     ensures queries { (types : Types) (design : Design) (text : List ℕ) (fault : QueryFault) (f : List Value) → IsQueryFault types design text fault → IsQuery types design text f → ⊥ }
     ensures tuples { (types : Types) (design : Design) (text : List ℕ) (fault : QueryFault) (row : List Value) → IsTupleFault types design text fault → IsTuple types design text row → ⊥ }
 {}
+
+/// A text has one fault at most, as a row, as a query and as a tuple.
+pub fn refused_texts_have_one_fault()
+    ensures rows { (types : Types) (rounding : Rounding) (ports : List Port) (text : List ℕ) (a b : RowFault) → IsRowFault types rounding ports text a → IsRowFault types rounding ports text b → a ≡ b }
+    ensures queries { (types : Types) (design : Design) (text : List ℕ) (a b : QueryFault) → IsQueryFault types design text a → IsQueryFault types design text b → a ≡ b }
+    ensures tuples { (types : Types) (design : Design) (text : List ℕ) (a b : QueryFault) → IsTupleFault types design text a → IsTupleFault types design text b → a ≡ b }
+{}

@@ -1,4 +1,5 @@
 ghost use Rattle.std.specs.Prelude.{◌≡◌, Some};
+ghost use Rattle.fault_list.specs.FirstBad.{AnswersBy};
 ghost use Rattle.query_read.specs.Queries as spec;
 ghost use Rattle.row_values.specs.Rows.{cells_meant};
 ghost use Rattle.value_type.specs.Types.{AreNamed};
@@ -31,7 +32,7 @@ pub fn read_row(
     text: &str,
 ) -> Result<Row, Stop<RowFault>>
     requires { AreNamed types.now }
-    ensures { spec.AnswersBy (spec.IsRow types.now rounding ports.now text.now) (spec.IsRowFault types.now rounding ports.now text.now) result }
+    ensures { AnswersBy (spec.IsRow types.now rounding ports.now text.now) (spec.IsRowFault types.now rounding ports.now text.now) result }
 {
     let trees = match trees_of(alloc, text) {
         Ok(trees) => trees,
@@ -42,7 +43,7 @@ pub fn read_row(
 
 /// The trees of the values that the text writes, or where it goes wrong.
 fn trees_of(alloc: Global, text: &str) -> Result<List<ValueTree>, Stop<RowFault>>
-    ensures { spec.AnswersBy (spec.WritesValues text.now) (spec.IsTextFault text.now) result }
+    ensures { AnswersBy (spec.WritesValues text.now) (spec.IsTextFault text.now) result }
 {
     let bytes = text.as_bytes();
     let tokens = match lex(alloc, bytes) {
@@ -67,7 +68,7 @@ fn row_of_trees(
     trees: &[ValueTree],
 ) -> Result<Row, Stop<RowFault>>
     requires { AreNamed types.now }
-    ensures { spec.AnswersBy (λ row. cells_meant types.now rounding ports.now trees.now ≡ Some row) (spec.IsTreeFault types.now rounding ports.now trees.now) result }
+    ensures { AnswersBy (λ row. cells_meant types.now rounding ports.now trees.now ≡ Some row) (spec.IsTreeFault types.now rounding ports.now trees.now) result }
 {
     if trees.len() != ports.len() {
         return Err(Stop::At(RowFault::Width {

@@ -1,4 +1,5 @@
 pub mod CellLemmas
+pub mod FaultLemmas
 pub mod FindsLemmas
 pub mod FitLemmas
 pub mod OnceLemmas

@@ -44,7 +44,7 @@ module _ (t : Types) (r : Rounding) where
   cells_same (p ∷ ps) (c ∷ cs) (v ∷ vs) (w ∷ ws) h k = ap₂ (λ (x : Value) (xs : List Value). x ∷ xs) (cell_same p.kind c v w h.0 k.0) (cells_same ps cs vs ws h.1 k.1)
 
 module _ (t : Types) (provides requires_ : List Port) where
-  record_same : (cells : Record) (a b : CatRow) → RecordIs t provides requires_ cells a → RecordIs t provides requires_ cells b → a ≡ b
+  pub record_same : (cells : Record) (a b : CatRow) → RecordIs t provides requires_ cells a → RecordIs t provides requires_ cells b → a ≡ b
   record_same cells a b h k =
       let names = record_name t provides requires_ cells a b h k in
       let provided = cells_same t rounding.Down provides (drop 1 cells) a.provided b.provided h.provided k.provided in
@@ -52,7 +52,7 @@ module _ (t : Types) (provides requires_ : List Port) where
       λ i. record { name = names i; provided = provided i; required = required i }
 
   -- Which rows come before says only which names are new.
-  rows_same : (before others : List CatRow) (records : List Record) (a b : List CatRow) → RowsAre t provides requires_ before records a → RowsAre t provides requires_ others records b → a ≡ b
+  pub rows_same : (before others : List CatRow) (records : List Record) (a b : List CatRow) → RowsAre t provides requires_ before records a → RowsAre t provides requires_ others records b → a ≡ b
   rows_same before others [] [] [] h k = refl
   rows_same before others [] [] (y ∷ b) h k = absurd k
   rows_same before others [] (x ∷ a) b h k = absurd h

@@ -6,8 +6,9 @@ ghost use Rattle.design_lexer.specs.declared.tree.RowTree.{RowTree};
 ghost use Rattle.design_lexer.specs.declared.tree.ValueTree.{ValueTree};
 ghost use Rattle.design_model.specs.Typed.{row_is_typed};
 ghost use Rattle.design_model.specs.declared.design.CatRow.{CatRow};
+ghost use Rattle.fault_list.specs.declared.fault.Fault.{Fault};
 ghost use Rattle.row_values.specs.Rows.{rows_meant};
-ghost use Rattle.row_values.specs.Tables.{IsTable};
+ghost use Rattle.row_values.specs.Tables.{IsTable, IsTableFault};
 ghost use Rattle.row_values.specs.Values.{value_meant};
 ghost use Rattle.row_values.specs.declared.value.Rounding.{Rounding};
 ghost use Rattle.value_type.specs.Fits.{fits};
@@ -28,4 +29,10 @@ pub fn meant_values_fit()
 /// A table means one list of rows at most.
 pub fn tables_mean_one_list_of_rows()
     ensures { (types : Types) (provides requires_ : List Port) (bytes : List ℕ) (rows others : List CatRow) → IsTable types provides requires_ bytes rows → IsTable types provides requires_ bytes others → rows ≡ others }
+{}
+
+/// A table has one first fault at most, and none where it means rows.
+pub fn tables_have_one_fault()
+    ensures one { (types : Types) (provides requires_ : List Port) (bytes : List ℕ) (a b : Fault) → IsTableFault types provides requires_ bytes a → IsTableFault types provides requires_ bytes b → a ≡ b }
+    ensures never_both { (types : Types) (provides requires_ : List Port) (bytes : List ℕ) (rows : List CatRow) (fault : Fault) → IsTable types provides requires_ bytes rows → IsTableFault types provides requires_ bytes fault → ⊥ }
 {}

@@ -2,7 +2,8 @@ use Rattle.std.proofs.Common.{◌≡◌, ◌<◌, ◌≤◌, ◌∙◌, [], ◌�
 use Rattle.std.proofs.lemmas.List.{take_all, take_more}
 use Rattle.catalogue_read.specs.Catalogues.{HasBadRow, HasRows, HasSomeRows}
 use Rattle.catalogue_read.proofs.FileLemmas.{file_there}
-use Rattle.catalogue_read.specs.FirstBadLaws.{good_next, pointwise_push, stopped_here}
+use Rattle.fault_list.specs.FirstBadLaws.{good_next, stopped_here}
+use Rattle.name_table.specs.PartnerLaws.{pointwise_push}
 use Rattle.design_model.specs.declared.design.CatRow.{CatRow}
 use Rattle.name_table.specs.SmallLaws.{small_at}
 use Rattle.name_table.specs.declared.source.SourceFile.{SourceFile}

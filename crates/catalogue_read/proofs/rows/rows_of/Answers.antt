@@ -1,5 +1,6 @@
-use Rattle.catalogue_read.specs.Catalogues.{AnswersBy, HasBadRow, HasRows}
+use Rattle.catalogue_read.specs.Catalogues.{HasBadRow, HasRows}
 use Rattle.catalogue_read.proofs.FileLemmas.{at_number, file_there}
+use Rattle.fault_list.specs.FirstBad.{AnswersBy}
 use Rattle.name_table.specs.SmallLaws.{small_at}
 use Rattle.name_table.specs.declared.source.SourceFile.{SourceFile}
 use Rattle.catalogue_read.proofs.rows.rows_of.Goals as goal

@@ -1,7 +1,8 @@
 use Rattle.std.proofs.Common.{◌∙◌, subst, sym, Option}
-use Rattle.catalogue_read.specs.Catalogues.{AnswersBy, AreRowsOf, Catalogue, HasBadRow, HasRows}
+use Rattle.catalogue_read.specs.Catalogues.{AreRowsOf, Catalogue, HasBadRow, HasRows}
 use Rattle.catalogue_read.specs.Held.{written}
 use Rattle.catalogue_read.proofs.FileLemmas.{at_number, file_there, listed_file, provided_few, required_few}
+use Rattle.fault_list.specs.FirstBad.{AnswersBy}
 use Rattle.name_table.specs.SmallLaws.{small_at}
 use Rattle.name_table.specs.declared.source.SourceFile.{SourceFile}
 use Rattle.side_ports.specs.Held.{sides_held}

@@ -1,18 +1,9 @@
-use Rattle.std.specs.Str.{bytes_eq}
-use Rattle.design_cli.proofs.FoundLaws.{found_catalogue, found_fits, found_ports, replies_found}
+use Rattle.design_cli.proofs.AnswerLemmas.{query_fits}
 use Rattle.design_cli.proofs.answer.answer.Goals as goal
+use Rattle.design_model.specs.Parts.{provided_ports}
+use Rattle.row_values.specs.declared.value.Rounding.TheVariants as rounding
 
-pub query_report-requires-clause-catalogue : goal.query_report-requires-clause-catalogue
-query_report-requires-clause-catalogue c =
-    found_catalogue (λ design. bytes_eq design.name c.args.name.now) c.args.files.now _ c.in-Some.design c.in-Ok.ensures.designs c.in-Some.ensures
-
-pub query_report-requires-clause-rows_fit : goal.query_report-requires-clause-rows_fit
-query_report-requires-clause-rows_fit c =
-    found_fits (λ design. bytes_eq design.name c.args.name.now) c.args.files.now _ c.in-Some.design c.in-Ok.ensures.designs c.in-Some.ensures
-
-pub query_report-requires-clause-ports : goal.query_report-requires-clause-ports
-query_report-requires-clause-ports c =
-    found_ports (λ design. bytes_eq design.name c.args.name.now) c.args.files.now _ c.in-Some.design c.in-Ok.ensures.designs c.in-Some.ensures
-
-pub returns-in-Some : goal.returns-in-Some
-returns-in-Some c = replies_found c.args.files.now _ c.args.name.now c.args.query.now c.in-Ok.ensures.designs c.in-Some.design c.in-Some.ensures c.query_report.result c.query_report.ensures
+pub minimal_report-requires-clause-f_fits : goal.minimal_report-requires-clause-f_fits
+minimal_report-requires-clause-f_fits c =
+    query_fits c.types-2.result.now _ c.args.query.now c.in-Ok-read_query.query (rw (c.types.ensures, ← c.types-2.ensures) at c.in-Ok-read_query.ensures)
+    (λ d h. c.queries_fit.ensures c.types-2.result.now rounding.Up (provided_ports d) c.args.query.now c.in-Ok-read_query.query.f h (rw c.types-2.ensures c.args.library.now.names.named))

@@ -1,5 +1,4 @@
-use Rattle.design_lexer.specs.CutLaws.{tokens_same, never_both}
-use Rattle.design_lexer.proofs.CutLemmas.{first_bad_same}
+use Rattle.design_lexer.specs.CutLaws.{first_bad_same, never_both, tokens_same}
 use Rattle.design_lexer.proofs.laws.texts_are_cut_in_one_way.Goals as goal
 
 pub returns-clause-tokens : goal.returns-clause-tokens

@@ -1,6 +1,7 @@
 use Rattle.std.proofs.Common.{◌∙◌, ap, subst, Some, Err, List, ℕ}
 use Rattle.design_lexer.specs.declared.tree.File.{File}
-use Rattle.library_files.specs.Parsed.{AnswersBy, HasFault, Writes}
+use Rattle.fault_list.specs.FirstBad.{AnswersBy}
+use Rattle.library_files.specs.Parsed.{HasFault, Writes}
 use Rattle.library_files.proofs.ParsedLemmas.{fault_in_file, made_source, made_table}
 use Rattle.library_files.proofs.source.made_with.Goals as goal
 

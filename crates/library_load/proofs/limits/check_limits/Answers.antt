@@ -2,7 +2,7 @@ use Rattle.std.proofs.Common.{◌≡◌, ◌<◌, ◌∙◌, ap, get_or, length,
 use Rattle.std.proofs.lemmas.Option.{slice_get_read}
 use Rattle.std.specs.Option.{option_copied}
 use Rattle.std.specs.Prelude.{slice_get}
-use Rattle.catalogue_read.specs.FirstBadLaws.{first_here, good_next}
+use Rattle.fault_list.specs.FirstBadLaws.{first_here, good_next}
 use Rattle.design_measure.specs.declared.measures.Measured.{Measured}
 use Rattle.library_load.proofs.LimitLemmas.{past, placed_here, within}
 use Rattle.library_load.proofs.MadeLemmas.{design_measured}

@@ -1,8 +1,0 @@
--- What may be missing.
-use Rattle.std.specs.Prelude.{Option, Some, None}
-
-infixl 10 ◌>>=◌
--- the next step from what there is
-abbrev pub ◌>>=◌ : {A B : Type 0} → Option A → (A → Option B) → Option B
-(Some x) >>= f = f x
-None >>= f = None
