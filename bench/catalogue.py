@@ -44,7 +44,7 @@ def rows_of(count):
 
 
 def catalogue(rows):
-    """The text of a catalogue in the plain form. Each row provides at least the 90 that is asked for."""
+    """The text of a catalogue. Each row provides at least the 90 that is asked for."""
     parts = ["catalogue { provides lift [Nat]; requires mass [Nat]; requires cost [Nat];"]
     for at, (mass, cost) in enumerate(rows):
         parts.append(f" row r{at}: {90 + at % 10} -> {mass}, {cost};")

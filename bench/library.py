@@ -1,45 +1,44 @@
 #!/usr/bin/env python3
-"""Shows how the time for a library grows with its size: for reading it, and for checking its names, types, connections,
-rows and references.
+"""Shows how the time and the memory of `mcdpl solve` grow with the size of a library.
 
     bench/library.py [PERCENT ..]
 
-Seven libraries are made, each at a tenth of its full size and at the full one, which is within the limits of a library.
-In full they are
+Each library is made at a tenth of its full size and at the full one, which is within the limits of a library. The
+program reads and checks all of it, and then answers for a small catalogue that stands beside it. In full they are
 
-    instances   a net of 20,000 instances in a chain, with a rule for each and one more
+    rows        31 catalogues of 9,680 rows, 300,080 in all
+    tables      31 tables of 9,680 records, and their catalogues
+    files       1,000 catalogues of 16 KiB
+    instances   a net of 20,000 instances in a chain, with a rule for each and one more: it is too large
     ports       a net of 100 instances of a catalogue with 200 ports, of which a quarter is ignored, and the others are
                 constrained or read
-    rows        a catalogue of 30,000 rows
-    dense       1,000 files: each but the last is a choice between all files after it, 499,500 references in all
+    dense       999 files: each but the last is a choice between all files after it, 498,501 references in all: the first
+                is too deep
     circular    the same, where the last one names the first, so that the first is refused
-    chain       1,000 files: each but the last is a choice that names the next
+    doubling    forty designs, each a net of two of the one before it: the first that is too large is refused
     parameters  a template of 20,000 parameters and as many instances, each of which names the last parameter
 
-A tenth has a tenth of the instances, rows or files, and so a hundredth of the references of `dense` and `circular`.
-
-The small program `library_bench` reads each from a file and is told after which stage to stop. The least time of five
-runs is taken. A stage's time is what its end takes longer than that of the stage before, and that of reading what it
-takes longer than for no files. Times are in milliseconds, and `-` stands where the names were refused. Where a stage
-takes much less time than those before it, its time is as uncertain as theirs.
+A tenth has a tenth of the rows, instances or files. Each is run three times: the least time is printed, and the greatest
+peak of memory, also as a multiple of the library's bytes.
 """
 
 import os
+import shutil
 import subprocess
 import sys
 import tempfile
 import time
 
 TOP = os.path.dirname(os.path.dirname(os.path.abspath(__file__)))
-CRATE = os.path.join(TOP, "crates", "library_bench")
-PROGRAM = os.path.join(CRATE, "out", "library_bench")
+MCDPL = os.path.join(TOP, "mcdpl")
 PERCENTS = [10, 100]
-RUNS = 5
+RUNS = 3
 MAX_FILES = 1000
 MAX_FILE = 1_048_576
 MAX_TEXT = 16_777_216
-STAGES = ["parse", "names", "types", "connection", "rows", "all"]
+TIME = shutil.which("time")
 CATALOGUE = "catalogue { provides x [Nat]; requires y [Nat]; row only: 1 -> 2; }"
+ASKED = ("asked", "1", "finished 1\n2\n")
 
 
 def instances(percent):
@@ -50,7 +49,7 @@ def instances(percent):
     text.append(" p0.x >= y;")
     text += [f" p{at}.x >= p{at - 1}.y;" for at in range(1, count)]
     text.append(f" x >= p{count - 1}.y; }}")
-    return {"net.mcdp": "".join(text), "part.mcdp": CATALOGUE}, None
+    return {"net.mcdp": "".join(text), "part.mcdp": CATALOGUE}, "net.mcdp: TooLarge at 0" if count > 3000 else None
 
 
 def ports(percent):
@@ -73,9 +72,29 @@ def ports(percent):
 
 
 def rows(percent):
-    text = ["catalogue { provides x [Nat]; requires y [Nat];"]
-    text += [f" row r{at}: {at} -> {at};" for at in range(300 * percent)]
-    return {"rows.mcdp": "".join(text) + " }"}, None
+    start = "catalogue { provides capacity [Wh]; requires mass [g]; requires cost [USD];"
+    files = {}
+    for number in range(31):
+        text = [f" row r{at}: {at} Wh -> {at}00 g, {at}.50 USD;" for at in range(9680 * percent // 100)]
+        files[f"c{number:02}.mcdp"] = start + "".join(text) + " }"
+    return files, None
+
+
+def tables(percent):
+    start = "catalogue { provides capacity [Wh]; requires mass [g]; requires cost [USD]; table"
+    files = {}
+    for number in range(31):
+        text = [f"r{at},{at} Wh,{at}00 g,{at}.50 USD\n" for at in range(9680 * percent // 100)]
+        files[f"t{number:02}.csv"] = "name,capacity,mass,cost\n" + "".join(text)
+        files[f"c{number:02}.mcdp"] = f"{start} t{number:02}; }}"
+    return files, None
+
+
+def many(percent):
+    """Catalogues of nearly 16 KiB each."""
+    start = "catalogue { provides x [Nat]; requires y [Nat];"
+    text = start + "".join(f" row r{at:03}: {at:05} -> {at:05};" for at in range(620)) + " }"
+    return {f"f{number:03}.mcdp": text for number in range(10 * percent - 1)}, None
 
 
 def choice(numbers):
@@ -83,23 +102,24 @@ def choice(numbers):
 
 
 def dense(percent):
-    count = 10 * percent
+    count = 10 * percent - 1
     files = {f"f{at:03}.mcdp": choice(range(at + 1, count)) for at in range(count - 1)}
     files[f"f{count - 1:03}.mcdp"] = CATALOGUE
-    return files, None
+    return files, "f000.mcdp: TooDeep at 0"
 
 
 def circular(percent):
     files, _ = dense(percent)
     files[max(files)] = choice([0])
-    return files, "Circular at 0 in f000.mcdp"
+    return files, "f000.mcdp: Circular at 0"
 
 
-def chain(percent):
-    count = 10 * percent
-    files = {f"f{at:03}.mcdp": choice([at + 1]) for at in range(count - 1)}
-    files[f"f{count - 1:03}.mcdp"] = CATALOGUE
-    return files, None
+def doubling(percent):
+    """Each design is twice the one before it, so the last of forty would be a tree of 2^40 catalogues."""
+    twice = "mcdp {{ provides x [Nat]; requires y [Nat]; instance a = d{0:02}; instance b = d{0:02}; a.x >= x; b.x >= x; y >= a.y + b.y; }}"
+    files = {"d00.mcdp": CATALOGUE}
+    files |= {f"d{at:02}.mcdp": twice.format(at - 1) for at in range(1, max(14, 40 * percent // 100))}
+    return files, "d11.mcdp: TooLarge at 0"
 
 
 def parameters(percent):
@@ -110,8 +130,8 @@ def parameters(percent):
     return {"both.template": f"template<{names}> mcdp {{{parts} }}", "plug.interface": "interface { }"}, None
 
 
-KINDS = [("instances", instances), ("ports", ports), ("rows", rows), ("dense", dense), ("circular", circular),
-         ("chain", chain), ("parameters", parameters)]
+KINDS = [("rows", rows), ("tables", tables), ("files", many), ("instances", instances), ("ports", ports),
+         ("dense", dense), ("circular", circular), ("doubling", doubling), ("parameters", parameters)]
 
 
 def expect(is_so, what):
@@ -119,66 +139,54 @@ def expect(is_so, what):
         sys.exit(f"bench: {what}")
 
 
-def listed(files):
-    """The library as the program reads it."""
-    expect(len(files) <= MAX_FILES, f"a library of {len(files)} files has more than it may have")
+def write_library(folder, files):
+    """Writes the files, and the small catalogue that is asked for: how many bytes there are."""
+    name, _, _ = ASKED
+    files = {f"{name}.mcdp": CATALOGUE, **files}
+    expect(len(files) <= MAX_FILES + 1, f"a library of {len(files)} files has more than it may have")
     expect(all(len(text) <= MAX_FILE for text in files.values()), "a file is longer than it may be")
     expect(sum(map(len, files.values())) <= MAX_TEXT, "a library is longer than it may be")
-    return "".join(f"== {name}\n{files[name]}\n" for name in sorted(files))
+    for name, text in files.items():
+        with open(os.path.join(folder, name), "w", encoding="ascii", newline="") as file:
+            file.write(text)
+    return sum(map(len, files.values()))
 
 
-def answer(library, stage):
-    """What the program prints for the library in this file, and its seconds."""
-    library.seek(0)
-    start = time.perf_counter()
-    done = subprocess.run([PROGRAM, stage], stdin=library, stdout=subprocess.PIPE, check=False)
-    seconds = time.perf_counter() - start
-    expect(done.returncode == 0, f"status {done.returncode}")
-    return done.stdout.decode().strip(), seconds
-
-
-def least_times(text, wants):
-    """For each stage that is named, the least seconds up to it. Each has to answer what is wanted."""
-    times = {stage: [] for stage in wants}
-    with tempfile.TemporaryFile() as library:
-        library.write(text.encode())
-        for _ in range(RUNS):
-            for stage, want in wants.items():
-                got, seconds = answer(library, stage)
-                expect(got == want, f"the answer is '{got}' and not '{want}'")
-                times[stage].append(seconds)
-    return [min(times[stage]) for stage in wants]
-
-
-def stage_times(text, fault, base):
-    """The seconds of each stage, up to that of the names if there is a fault, which is one of names."""
-    wants = {stage: "accepted" for stage in STAGES}
-    if fault is not None:
-        wants = {"parse": "accepted", "names": fault}
-    ends = least_times(text, wants)
-    return [max(end - start, 0.0) for start, end in zip([base, *ends], ends)]
-
-
-def build():
-    """Has the small program proved and built, before anything is measured."""
-    if not os.path.exists(PROGRAM):
-        subprocess.run(["rt", "run"], cwd=CRATE, stdin=subprocess.DEVNULL, stdout=subprocess.DEVNULL, check=False)
-    expect(os.path.exists(PROGRAM), "the program library_bench was not proved and built")
+def measured(words):
+    """Runs a command: what it wrote on both streams, its seconds, and its peak memory in bytes."""
+    with tempfile.TemporaryFile() as out, tempfile.TemporaryFile() as err, tempfile.NamedTemporaryFile() as note:
+        if TIME:
+            words = [TIME, "-f", "%M", "-o", note.name, *words]
+        start = time.perf_counter()
+        child = subprocess.Popen(words, stdin=subprocess.DEVNULL, stdout=out, stderr=err)
+        _, _, used = os.wait4(child.pid, 0)
+        seconds = time.perf_counter() - start
+        out.seek(0)
+        err.seek(0)
+        peak = int(note.read().split()[-1]) if TIME else used.ru_maxrss
+        return out.read().decode(), err.read().decode(), seconds, peak * 1024
 
 
 def main():
     percents = [int(word) for word in sys.argv[1:]] or PERCENTS
     expect(all(0 < percent <= 100 for percent in percents), "a size is from 1 to 100 percent")
-    build()
-    [base] = least_times("", {"parse": "accepted"})
-    print(f"{'library':>10} {'percent':>8} {'bytes':>9} {'reading':>8} {'names':>8} {'types':>8} {'ports':>8} {'rows':>8} {'refs':>8}")
-    for name, make in KINDS:
+    subprocess.run([MCDPL, "solve", os.path.join(TOP, "examples", "motors"), "motors", "90"],
+                   stdin=subprocess.DEVNULL, stdout=subprocess.DEVNULL, check=True)
+    print(f"{'library':>10} {'percent':>8} {'bytes':>9} {'seconds':>8} {'peak':>9} {'peak/bytes':>11}")
+    name, query, report = ASKED
+    for kind, make in KINDS:
         for percent in percents:
             files, fault = make(percent)
-            text = listed(files)
-            times = [f"{seconds * 1000:>8.1f}" for seconds in stage_times(text, fault, base)]
-            times += [f"{'-':>8}"] * (len(STAGES) - len(times))
-            print(f"{name:>10} {percent:>8} {len(text):>9}", *times)
+            with tempfile.TemporaryDirectory() as folder:
+                size = write_library(folder, files)
+                times, peaks = [], []
+                for _ in range(RUNS):
+                    out, err, seconds, peak = measured([MCDPL, "solve", folder, name, query])
+                    wanted = ("", f"{fault}\n") if fault else (report, "")
+                    expect((out, err) == wanted, f"{kind} at {percent} percent answered '{out}' and '{err}'")
+                    times.append(seconds)
+                    peaks.append(peak)
+            print(f"{kind:>10} {percent:>8} {size:>9} {min(times):>8.3f} {max(peaks) / 2**20:>6.1f} MB {max(peaks) / size:>11.1f}")
 
 
 if __name__ == "__main__":
