@@ -21,7 +21,7 @@ import time
 
 TOP = os.path.dirname(os.path.dirname(os.path.abspath(__file__)))
 MCDPL = os.path.join(TOP, "mcdpl")
-SIZES = [2500, 5000, 10000, 20000]
+SIZES = [1250, 2500, 5000, 9990]
 RUNS = 3
 MAX_FILE = 1_048_576
 STEP = 10

@@ -39,6 +39,7 @@ fn listed_rows(alloc: Global, lexemes: &mut Lexemes<'_>) -> Result<List<RowTree>
     while lexemes.starts(Class::Row) {
         rows.push(row(alloc, lexemes)?)?;
     }
+    rows.shrink_to_fit();
     Ok(List::of(rows))
 }
 

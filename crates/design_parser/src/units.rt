@@ -83,6 +83,7 @@ pub fn unit(alloc: Global, lexemes: &mut Lexemes<'_>) -> Result<List<FactorTree>
     while lexemes.starts_any(&[Class::Dot, Class::Slash]) {
         factors.push(further_factor(alloc, lexemes)?)?;
     }
+    factors.shrink_to_fit();
     Ok(List::of(factors))
 }
 

@@ -77,6 +77,7 @@ pub fn cells(
         lexemes.skip();
         cells.push(value(alloc, room, lexemes)?)?;
     }
+    cells.shrink_to_fit();
     Ok(cells)
 }
 

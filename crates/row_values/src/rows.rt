@@ -52,6 +52,7 @@ pub fn rows_of_trees(
         let next = row_of(alloc, row, types, provides, requires_)?;
         made.push(next)?;
     }
+    made.shrink_to_fit();
     Ok(List::of(made))
 }
 
@@ -104,6 +105,7 @@ fn cells_of(
         };
         values.push(value)?;
     }
+    values.shrink_to_fit();
     let row = Row::of(alloc, List::of(values))?;
     Ok(row)
 }

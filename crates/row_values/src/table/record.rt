@@ -74,6 +74,7 @@ fn cells_of_record(
         };
         values.push(value)?;
     }
+    values.shrink_to_fit();
     let row = Row::of(alloc, List::of(values))?;
     Ok(row)
 }

@@ -47,7 +47,7 @@ pub fn rows_of_table(
 }
 
 /// The rows, if there are some.
-fn rows_kept(rows: Vec<CatRow>) -> Result<List<CatRow>, Stop<Fault>>
+fn rows_kept(mut rows: Vec<CatRow>) -> Result<List<CatRow>, Stop<Fault>>
     ensures { IsKept rows.items result }
 {
     if rows.is_empty() {
@@ -56,6 +56,7 @@ fn rows_kept(rows: Vec<CatRow>) -> Result<List<CatRow>, Stop<Fault>>
             at: 0,
         }));
     }
+    rows.shrink_to_fit();
     Ok(List::of(rows))
 }
 

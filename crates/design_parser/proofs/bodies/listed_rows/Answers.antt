@@ -24,4 +24,4 @@ loop-alloc-preserved c =
     c.starts.ensures c.loop-alloc-test.true c.in_ok-row.ensures c.in_ok-push.ensures.items c.loop-alloc.invariant
 
 pub returns : goal.returns
-returns c = rw c.of.ensures (is_done at_end (is class.Row) row_at c.starts.result c.loop-alloc.rows.items c.loop-alloc.lexemes (listed_rows_at c.args.lexemes.now) c.starts.ensures c.loop-alloc-test.false c.loop-alloc.invariant)
+returns c = rw (c.of.ensures, c.shrink_to_fit.ensures.items) (is_done at_end (is class.Row) row_at c.starts.result c.loop-alloc.rows.items c.loop-alloc.lexemes (listed_rows_at c.args.lexemes.now) c.starts.ensures c.loop-alloc-test.false c.loop-alloc.invariant)

@@ -24,4 +24,4 @@ loop-alloc-preserved c =
     c.starts_any.ensures c.loop-alloc-test.true c.in_ok-further_factor.ensures c.in_ok-push-2.ensures.items c.loop-alloc.invariant
 
 pub returns : goal.returns
-returns c = rw c.of.ensures (is_done at_end (one_of joints) further_factor_at c.starts_any.result c.loop-alloc.factors.items c.loop-alloc.lexemes (unit_at c.args.lexemes.now) c.starts_any.ensures c.loop-alloc-test.false c.loop-alloc.invariant)
+returns c = rw (c.of.ensures, c.shrink_to_fit.ensures.items) (is_done at_end (one_of joints) further_factor_at c.starts_any.result c.loop-alloc.factors.items c.loop-alloc.lexemes (unit_at c.args.lexemes.now) c.starts_any.ensures c.loop-alloc-test.false c.loop-alloc.invariant)

@@ -29,7 +29,7 @@ cells-loop-alloc-preserved t c =
     c.starts.ensures c.loop-alloc-test.true c.skip.ensures c.in_ok-value-2.ensures c.in_ok-push-2.ensures.items c.loop-alloc.invariant
 
 pub cells-returns : goal.cells-returns
-cells-returns t c = is_done at_end (is class.Comma) (sym_at class.Comma (value_at c.args.room)) c.starts.result c.loop-alloc.cells.items c.loop-alloc.lexemes (cells_at c.args.room c.args.lexemes.now) c.starts.ensures c.loop-alloc-test.false c.loop-alloc.invariant
+cells-returns t c = rw c.shrink_to_fit.ensures.items (is_done at_end (is class.Comma) (sym_at class.Comma (value_at c.args.room)) c.starts.result c.loop-alloc.cells.items c.loop-alloc.lexemes (cells_at c.args.room c.args.lexemes.now) c.starts.ensures c.loop-alloc-test.false c.loop-alloc.invariant)
 
 pub value-returns-then-room-eq0 : goal.value-returns-then-room-eq0
 value-returns-then-room-eq0 t c = rw (value_none c.args.room c.args.lexemes.now c.if-room-eq0.true) c.plain_value.ensures

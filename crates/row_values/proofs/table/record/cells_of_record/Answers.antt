@@ -23,4 +23,4 @@ pub returns : goal.returns
 returns c =
     let T = c.args.types.now in
     let done = cells_done T c.args.rounding c.args.ports.now (fields_of c.args.cells.now) c.args.from c.loop-at.at c.loop-at.values.items c.loop-at.invariant c.loop-at-test.false in
-    rw (c.in_ok-row.ensures, c.of.ensures) done
+    rw (c.in_ok-row.ensures, c.of.ensures, c.shrink_to_fit.ensures.items) done
