@@ -14,7 +14,7 @@ use name_table::Names;
 use order_core::{List, NoMemory};
 use reference_meaning::{Module, modules_denote_what_files_do};
 use std::alloc::Global;
-use template_expand::expand_module;
+use template_expand::expand;
 use value_type::Types;
 
 /// The files of a library that is accepted, and what its designs and templates say: each one's ports, rows and
@@ -51,7 +51,7 @@ impl Library {
         files_have_one_list_of_rows();
         modules_denote_what_files_do();
         match self.module(stem) {
-            Some(named) => Ok(Some(expand_module(alloc, self.modules.items(), named)?)),
+            Some(named) => Ok(Some(expand(alloc, self.modules.items(), named)?)),
             None => Ok(None),
         }
     }

@@ -7,7 +7,7 @@ ghost use Rattle.side_ports.specs.Held.{sides_held};
 ghost use Rattle.reference_rules.specs.ReferenceFaults.{branch_faults, choice_faults, differing, param_named, ports_by, reference_faults, referred};
 
 use crate::matching::are_alike;
-use crate::reference::{Scope, check_reference, has_ports};
+use crate::reference::{Scope, check_reference, matches_interface};
 use design_lexer::{BodyTree, BranchTree, RefTree};
 use fault_list::{Fault, FaultKind, Stop};
 use side_ports::SidePorts;
@@ -25,7 +25,7 @@ fn have_same_ports(scope: &Scope, one: &str, other: &str) -> bool
     ensures { result ≡ same_outlines (ports_by (fronts_held scope.now.names.now.files scope.now.fronts.now) (param_named (map wanted_held scope.now.own.now.wanted) one.now) one.now) (ports_by (fronts_held scope.now.names.now.files scope.now.fronts.now) (param_named (map wanted_held scope.now.own.now.wanted) other.now) other.now) }
 {
     match scope.ports(one) {
-        Some(ports) => has_ports(scope, other, ports),
+        Some(ports) => matches_interface(scope, other, ports),
         None => match scope.ports(other) {
             Some(ports) => is_none(ports),
             None => true,

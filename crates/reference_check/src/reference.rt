@@ -75,7 +75,7 @@ fn check_parameter(arguments: &[ArgTree]) -> Result<(), Fault>
 }
 
 /// Whether ports are those that the name has. A name that leads nowhere has none.
-pub(crate) fn has_ports(scope: &Scope, name: &str, wanted: &SidePorts) -> bool
+pub(crate) fn matches_interface(scope: &Scope, name: &str, wanted: &SidePorts) -> bool
     ensures { result ≡ same_outlines (sides_outlined (sides_held wanted.now)) (ports_by (fronts_held scope.now.names.now.files scope.now.fronts.now) (param_named (map wanted_held scope.now.own.now.wanted) name.now) name.now) }
 {
     match scope.ports(name) {
@@ -98,7 +98,7 @@ fn check_match(scope: &Scope, callee: &Front, argument: &ArgTree) -> Result<(), 
     let Some(parameter) = callee.named(argument.name.name.as_str()) else {
         return Ok(());
     };
-    if !has_ports(
+    if !matches_interface(
         scope,
         argument.reference.name.name.as_str(),
         parameter.ports.get(),

@@ -47,11 +47,7 @@ fn choice_of(alloc: Global, branches: Vec<Part>) -> Result<Design, NoMemory>
 }
 
 /// The design that a module without parameters denotes. It is at most 64 deep.
-pub fn expand_module(
-    alloc: Global,
-    modules: &[Option<Module>],
-    named: &Module,
-) -> Result<Design, NoMemory>
+pub fn expand(alloc: Global, modules: &[Option<Module>], named: &Module) -> Result<Design, NoMemory>
     requires { (X : Meaning) × ModuleMakes modules.now named.now X × (depth_of X ≤ 64) }
     ensures { IfOk result (λ made. (X : Meaning) → ModuleMakes modules.now named.now X → X ≡ made) }
 {
@@ -59,7 +55,7 @@ pub fn expand_module(
 }
 
 /// The design that a reference in a file without parameters denotes. It is at most 64 deep.
-pub fn expand_reference(
+pub fn specialize(
     alloc: Global,
     modules: &[Option<Module>],
     reference: &Resolved,

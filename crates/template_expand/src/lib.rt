@@ -5,4 +5,4 @@ mod copy;
 mod expanding;
 mod trail;
 
-pub use expanding::{expand_module, expand_reference};
+pub use expanding::{expand, specialize};

@@ -8,10 +8,10 @@ use smallvec::SmallVec;
 use std::alloc::Global;
 use std::marker::Model;
 
-/// A tuple of values, one for each of some ports. Up to eight values are kept within the row itself.
+/// A tuple of values, one for each of some ports. Up to three values are kept within the row itself.
 #[derive(Drop)]
 pub struct Row {
-    values: SmallVec<Value, 8>,
+    values: SmallVec<Value, 3>,
 }
 
 impl Model for Row {
@@ -52,7 +52,7 @@ impl Row {
         self.values().get(at)
     }
 
-    /// A row equal to this one. With up to eight numbers it takes no memory.
+    /// A row equal to this one. With up to three numbers it takes no memory.
     pub fn copy(&self, alloc: Global) -> Result<Row, NoMemory>
         ensures { IfOk result (λ row. row ≡ self.now) }
     {

@@ -1,6 +1,6 @@
 use Rattle.std.proofs.lemmas.Result.{IfOk-weaker}
 use Rattle.template_expand.proofs.PartLemmas.{reference_beneath}
-use Rattle.template_expand.proofs.expanding.expand_reference.Goals as goal
+use Rattle.template_expand.proofs.expanding.specialize.Goals as goal
 
 pub reference_made-requires : goal.reference_made-requires
 reference_made-requires c = (c.requires.0, reference_beneath _ _ c.requires.0 c.requires.1, c.requires.2)
