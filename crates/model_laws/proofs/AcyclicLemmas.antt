@@ -15,7 +15,7 @@ use Rattle.design_model.specs.declared.expr.Constraint.{Constraint}
 use Rattle.design_model.specs.declared.expr.Greater.TheVariants as greater
 use Rattle.design_model.specs.declared.expr.Greater.{Greater}
 use Rattle.model_laws.proofs.CycleLemmas.{closes}
-use Rattle.model_laws.proofs.ReadingLaws.{reads_weaker}
+use Rattle.model_laws.specs.ReadingLaws.{reads_weaker}
 use Rattle.model_laws.specs.Acyclic.{ReadsItself}
 use Rattle.model_laws.specs.SignalLaws.{cut_in_place}
 use Rattle.order_core.specs.MemberLaws.{first, second, both, decide, not_true, true_not, any_elim, any_intro, none_elim, mem-filter, filter-mem, empty_of_none}

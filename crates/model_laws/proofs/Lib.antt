@@ -1,4 +1,3 @@
 pub mod AcyclicLemmas
 pub mod CycleLemmas
 pub mod KindFoldLemmas
-pub mod ReadingLaws

@@ -7,6 +7,7 @@ pub mod GatheredLaws
 pub mod HoldsMonotone
 pub mod HoldsMonotoneLaws
 pub mod NetLaws
+pub mod ReadingLaws
 pub mod RoundsMonotoneLaws
 pub mod SatisfiedLaws
 pub mod Settled

@@ -1,0 +1,13 @@
+pub mod CarriedLemmas
+pub mod FeasibleLemmas
+pub mod GivenLemmas
+pub mod JoinLemmas
+pub mod NetLemmas
+pub mod ReadLemmas
+pub mod RunLemmas
+pub mod StandingLemmas
+pub mod StageTypeLemmas
+pub mod StepLemmas
+pub mod TargetLemmas
+pub mod WireLemmas
+pub mod WorthLemmas
